@@ -1,0 +1,64 @@
+-- What the paper proves of its runs, as statements: Propositions 1, 2, 5 and 6 and Lemmas 5 and 9 of document 000, in the words of
+-- demand 3. Each speaks of a run's accepted rounds.
+use mathlib.Core.Path.{_≡_}
+use mathlib.Core.Bool.{Bool, true}
+use mathlib.Core.List.{List, [], _∷_, List·Memᴰ}
+use Prim.Native.Nat.{ℕ, _+_, _≤_, _<_}
+use lib.Dec.{eqb}
+use Rattle.paper.specs.Stations.{Stations, All, size}
+use Rattle.paper.specs.Setup.{Algorithm, A, U, Setup, passesE}
+use Rattle.paper.specs.Rules.{Station, Decision, undecided, decided}
+use Rattle.paper.specs.Run.{States, Turn, FiresAt}
+
+-- the round t is among the rounds ts
+infix 40 _among_
+abbrev pub _among_ : Turn → List Turn → Type 0
+t among ts = List·Memᴰ t ts
+
+-- who holds v: the set of the stations with this estimate
+unfoldable pub holders : States → ℕ → Stations
+holders s v p = eqb (s p .estimate) v
+
+-- under A more than E - alpha stations hold v: holders and alpha together pass E. Under U all of them do
+unfoldable pub Locked-for : Algorithm → Setup → States → ℕ → Type 0
+unfolding holders
+Locked-for A S s v = passesE S (size (S .n) (holders s v) + S .alpha) ≡ true
+Locked-for U S s v = All (S .n) (λ p. s p .estimate ≡ v)
+
+unfoldable pub Locked : Setup → States → ℕ → Type 0
+unfolding Locked-for
+Locked S s v = Locked-for (S .algorithm) S s v
+
+-- wherever the decide rule fires, at one station twice or at two, it names one value (Propositions 1 and 5)
+unfoldable pub Agreement : Setup → List Turn → Type 0
+Agreement S ts =
+    (t u : Turn) (p q v w : ℕ) → t among ts → u among ts → p < S .n → q < S .n → FiresAt S t p v → FiresAt S u q w → v ≡ w
+
+-- from the end of a round in which it fires on, the stations are locked to that value (Lemmas 5 and 9)
+unfoldable pub Lock : Setup → List Turn → Type 0
+unfolding Locked
+Lock S ts =
+    (t u : Turn) (p v : ℕ) → t among ts → u among ts → t .number ≤ u .number → p < S .n → FiresAt S t p v → Locked S (u .after) v
+
+-- if all stations start with v, no other value is decided (Propositions 2 and 6)
+unfoldable pub Integrity : Setup → (ℕ → ℕ) → List Turn → Type 0
+Integrity S starts ts =
+    (v : ℕ) → All (S .n) (λ p. starts p ≡ v) → (t : Turn) (p w : ℕ) → t among ts → p < S .n → FiresAt S t p w → w ≡ v
+
+-- the round t is the first of ts in which the rule fires at p, and it fires for v
+pub record FirstFiring (S : Setup) (ts : List Turn) (p v : ℕ) (t : Turn) : Type 0 where
+  pub in-run : t among ts
+  pub fires : FiresAt S t p v
+  pub first : (u : Turn) (w : ℕ) → u among ts → FiresAt S u p w → t .number ≤ u .number
+
+-- a decision that is kept is the first firing's, with its round (document 01)
+unfoldable pub Kept : Setup → List Turn → Type 0
+Kept S ts =
+    (u : Turn) (p v r : ℕ) → u among ts → p < S .n → u .after p .decision ≡ decided v r
+    → (t : Turn) × FirstFiring S ts p v t × (t .number ≡ r)
+
+-- and a station at which the rule has fired is decided from then on
+unfoldable pub Decides : Setup → List Turn → Type 0
+Decides S ts =
+    (t u : Turn) (p v : ℕ) → t among ts → u among ts → t .number ≤ u .number → p < S .n → FiresAt S t p v
+    → ¬ (u .after p .decision ≡ undecided)
