@@ -57,11 +57,11 @@ module _ (S : Setup) (default : ℕ) (p : ℕ) (within : p < S .n) where
       (List·Memᴰ·cases-cons i)
 
   -- what is known of an undecided station's later decisions
-  abbrev FirstAmong : List Turn → ℕ → ℕ → Type 0
-  FirstAmong ts v r = (t : Turn) × FirstFiring S ts p v t × (t .number ≡ r)
+  abbrev FirstAmong : List Turn → ℕ → ℕ → Turn → Type 0
+  FirstAmong ts v r u = (t : Turn) × FirstFiring S ts p v t × (t .number ≡ r) × (r ≤ u .number)
 
   first-of : (ts : List Turn) (k : ℕ) (s : States) → Rounds S default k s ts → s p .decision ≡ undecided → (u : Turn) (v r : ℕ) → u among ts
-      → u .after p .decision ≡ decided v r → FirstAmong ts v r
+      → u .after p .decision ≡ decided v r → FirstAmong ts v r u
   unfolding Rounds keep
   first-of [] k s run e u v r i d = absurd (List·Memᴰ·not-nil i)
   first-of (x ∷ ts) k s run e u v r i d =
@@ -82,13 +82,17 @@ module _ (S : Setup) (default : ℕ) (p : ℕ) (within : p < S .n) where
                 (λ l. omega (arith, run .0 .counted, numbered S default ts (suc k) (x .after) (run .1) y l)) (List·Memᴰ·cases-cons j);
           }
 
-      fired-at : (w : ℕ) → firing (run .0) ≡ some w → u .after p .decision ≡ decided w (suc k) → FirstAmong (x ∷ ts) v r
+      fired-at : (w : ℕ) → firing (run .0) ≡ some w → u .after p .decision ≡ decided w (suc k) → FirstAmong (x ∷ ts) v r u
       fired-at w g d′ =
           let same-value : w ≡ v = cc in
-          let same-round : suc k ≡ r = cc in
-          (x, subst (λ (z : ℕ). FirstFiring S (x ∷ ts) p z x) same-value (head-first w g), run .0 .counted ∙ same-round)
+          let same-round : suc k ≡ r = cc in (
+            x,
+            subst (λ (z : ℕ). FirstFiring S (x ∷ ts) p z x) same-value (head-first w g),
+            run .0 .counted ∙ same-round,
+            omega (arith, numbered S default (x ∷ ts) k s run u i),
+          )
 
-      later : firing (run .0) ≡ none → FirstAmong ts v r → FirstAmong (x ∷ ts) v r
+      later : firing (run .0) ≡ none → FirstAmong ts v r u → FirstAmong (x ∷ ts) v r u
       later g found = (
         found .0,
         record {
@@ -104,10 +108,11 @@ module _ (S : Setup) (default : ℕ) (p : ℕ) (within : p < S .n) where
               (λ l. found .1 .first y z l h) (List·Memᴰ·cases-cons j);
         },
         found .2,
+        found .3,
       )
 
-      go : (f : Option ℕ) → firing (run .0) ≡ f → (x .after p .decision ≡ undecided → u among ts → FirstAmong ts v r) → (u ≡ x) ⊎ (u among ts)
-          → FirstAmong (x ∷ ts) v r
+      go : (f : Option ℕ) → firing (run .0) ≡ f → (x .after p .decision ≡ undecided → u among ts → FirstAmong ts v r u) → (u ≡ x) ⊎ (u among ts)
+          → FirstAmong (x ∷ ts) v r u
       go none g below (inl q) =
           let z : _≡_ {A = ℕ} 0 1 = cc (ap (λ (m : Turn). m .after p .decision) q, after-x none g) in absurd (omega arith)
       go none g below (inr j) = later g (below (after-x none g) j)

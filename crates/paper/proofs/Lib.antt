@@ -12,3 +12,4 @@ pub mod Rounds
 pub mod OneRound
 pub mod Safety
 pub mod Decisions
+pub mod GoesOn

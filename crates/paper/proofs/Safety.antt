@@ -14,7 +14,7 @@ use Rattle.paper.specs.Heard.{Message, val, query, Matrix, SHO, AHO}
 use Rattle.paper.specs.Setup.{Algorithm, A, U, Setup, acceptable, acceptable-for, passesE, passes-bound}
 use Rattle.paper.specs.Rules.{Station, Kind, update, value, vote, kind-of, sends, after, Fires}
 use Rattle.paper.specs.Run.{States, opened, Turn, Step, Rounds, Run, kind, sent, P-alpha, P-safe, Safe, FiresAt}
-use Rattle.paper.specs.Safety.{_among_, holders, Locked-for, Locked, Agreement, Lock, Integrity}
+use Rattle.paper.specs.Safety.{_among_, holders, Locked-for, Locked, Lawful, Agreement, Lock, Integrity}
 use Rattle.paper.proofs.Counting.{size-all, size-cong}
 use Rattle.paper.proofs.Thresholds.{all-pass-E}
 use Rattle.paper.proofs.Rounds.{numbered, fires-in}
@@ -232,22 +232,33 @@ module _ (S : Setup) (default : ℕ) (ok : acceptable S ≡ true) where
       go A = subst (λ (k : ℕ). passesE S (k + S .alpha) ≡ true) (sym everybody) (all-pass-E S ok)
       go U = all
 
-  module _ (starts : ℕ → ℕ) (ts : List Turn) (run : Run S default starts ts) (safe : (t : Turn) → t among ts → Safe S t) where
-    -- (a) wherever the decide rule fires, it names one value
-    pub agreement : Agreement S ts
+  module _ (starts : ℕ → ℕ) (ts : List Turn) (run : Run S default starts ts) (safe : AllSafe ts) where
+    one-value : Agreement S ts
     unfolding Agreement Run
-    agreement t u p q v w i j hp hq f g = go (decLe (t .number) (u .number))
+    one-value t u p q v w i j hp hq f g = go (decLe (t .number) (u .number))
       where
         go : Dec (t .number ≤ u .number) → v ≡ w
         go (yes le) = sym (fired-run ts 0 (opened starts) run safe (ready-start starts) t u p v i j le hp f .1 q w hq g)
         go (no gt) = fired-run ts 0 (opened starts) run safe (ready-start starts) u t q w j i (omega arith) hq g .1 p v hp f
 
-    -- (b) from the end of that round on the stations are locked to it
-    pub lock : Lock S ts
+    stays-locked : Lock S ts
     unfolding Lock Run
-    lock t u p v i j order h f = fired-run ts 0 (opened starts) run safe (ready-start starts) t u p v i j order h f .0
+    stays-locked t u p v i j order h f = fired-run ts 0 (opened starts) run safe (ready-start starts) t u p v i j order h f .0
 
-    -- (c) if all start with one value, no other is decided
-    pub integrity : Integrity S starts ts
+    only-start : Integrity S starts ts
     unfolding Integrity Run
-    integrity v all t p w i h f = bound-run ts 0 (opened starts) run safe (ready-start starts) v (bound-start starts v all) t i .1 p w h f
+    only-start v all t p w i h f =
+        bound-run ts 0 (opened starts) run safe (ready-start starts) v (bound-start starts v all) t i .1 p w h f
+
+module _ (S : Setup) (default : ℕ) (starts : ℕ → ℕ) (ts : List Turn) (lawful : Lawful S default starts ts) where
+  -- (a) wherever the decide rule fires, it names one value
+  pub agreement : Agreement S ts
+  agreement = one-value S default (lawful .setup) starts ts (lawful .rounds) (lawful .safe)
+
+  -- (b) from the end of that round on the stations are locked to it
+  pub lock : Lock S ts
+  lock = stays-locked S default (lawful .setup) starts ts (lawful .rounds) (lawful .safe)
+
+  -- (c) if all start with one value, no other is decided
+  pub integrity : Integrity S starts ts
+  integrity = only-start S default (lawful .setup) starts ts (lawful .rounds) (lawful .safe)

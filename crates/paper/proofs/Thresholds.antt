@@ -51,6 +51,15 @@ meets-U S e =
     let (first, second) = both _ _ first-two in
     record { E-below = ltb-true _ _ first; T-below = ltb-true _ _ second; T-high = leb-true _ _ third; E-high = leb-true _ _ fourth }
 
+-- and back: a setup is acceptable exactly if it meets them
+pub acceptable-A : (S : Setup) → MeetsA S → acceptable-for A S ≡ true
+unfolding acceptable-for E-below-n T-below-n T-enough
+acceptable-A S m = rw (lt-ltb _ _ (m .E-below), lt-ltb _ _ (m .T-below), le-leb _ _ (m .T-high))
+
+pub acceptable-U : (S : Setup) → MeetsU S → acceptable-for U S ≡ true
+unfolding acceptable-for E-below-n T-below-n T-enough E-enough
+acceptable-U S m = rw (lt-ltb _ _ (m .E-below), lt-ltb _ _ (m .T-below), le-leb _ _ (m .T-high), le-leb _ _ (m .E-high))
+
 module _ (S : Setup) where
   -- the tests, as orders of numbers
   over-T : (k : ℕ) → passesT S k ≡ true → S .T < k

@@ -1,4 +1,4 @@
--- Worked cases, and the test of them: the starred cases of document 01's bench sheet, and some on the edge of a threshold. A case is
+-- Worked cases, and the test of them: cases 1 to 15 of document 01's bench sheet, and some on the edge of a threshold. A case is
 -- computed by the definitions of Rules and Run: proofs/Table.antt has the checker do so.
 use mathlib.Core.Bool.{Bool, true, false, not, _&&_, cond}
 use mathlib.Core.List.{List, [], _∷_, _++_, map}
@@ -145,7 +145,7 @@ all-of = replicate
 abbrev values : List ℕ → List Message
 values = map val
 
--- document 01, 1 to 8; then one inequality missed, by one, and the others met
+-- document 01, 1 to 8, with A(1,0,0,0); then setups on either side of one inequality
 abbrev setups : List Case
 setups =
     judged (setup A 3 2 2 0) true
@@ -162,6 +162,11 @@ setups =
     ∷ judged (setup U 2 1 2 0) false
     ∷ judged (setup U 2 2 1 0) false
     ∷ judged (setup U 6 3 4 1) false
+    ∷ judged (setup U 5 3 4 1) false
+    ∷ judged (setup U 10 7 7 2) true
+    ∷ judged (setup A 11 10 10 2) true
+    ∷ judged (setup A 8 5 7 1) false
+    ∷ judged (setup A 8 6 7 1) true
     ∷ []
 
 -- 9, and a third round: it fires again, and the decision stays that of round 2
@@ -187,11 +192,12 @@ case-11 =
     (accepted (but 2 2 lost (all-heard (values (5 ∷ 5 ∷ 9 ∷ [])))) (5 ∷ 5 ∷ 9 ∷ []) (all-of 3 query) (all-of 3 none) ∷ [])
     (all-of 3 undecided)
 
--- 12: station 0 hears 8 from two senders, refused at 0; then from station 6 alone
+-- 12: all hear 8 from all, refused at each station, and nothing moves; station 0 hears 8 from two senders, refused at 0; then from station 6 alone
 abbrev case-12 : Case
 case-12 =
     run (setup A 7 6 6 1) 0 (all-of 7 4)
-    (refused (but 0 5 (heard (val 8)) (but 0 6 (heard (val 8)) (all-heard (all-of 7 (val 4))))) (0 ∷ []) []
+    (refused (all-heard (all-of 7 (val 8))) (0 ∷ 1 ∷ 2 ∷ 3 ∷ 4 ∷ 5 ∷ 6 ∷ []) []
+    ∷ refused (but 0 5 (heard (val 8)) (but 0 6 (heard (val 8)) (all-heard (all-of 7 (val 4))))) (0 ∷ []) []
     ∷ accepted (but 0 6 (heard (val 8)) (all-heard (all-of 7 (val 4)))) (all-of 7 4) (all-of 7 query) (none ∷ all-of 6 (some 4))
     ∷ [])
     (undecided ∷ all-of 6 (decided 4 1))
@@ -205,16 +211,17 @@ case-13 =
     ∷ [])
     (all-of 6 (decided 3 2))
 
--- 14; the same from starts with just T of one value; and where station 0 hears one vote of 7 in round 2, which is alpha votes
-abbrev case-14 : List ℕ → Cell → Case
-case-14 starts c =
-    run (setup U 6 4 4 1) 0 starts
+-- 14; the same with another default; from starts with just T of one value; and where station 0 hears one vote of 7 in round 2, which is
+-- alpha votes
+abbrev case-14 : ℕ → List ℕ → Cell → Case
+case-14 default starts c =
+    run (setup U 6 4 4 1) default starts
     (accepted (all-heard (values starts)) starts (all-of 6 query) (all-of 6 none)
-    ∷ accepted (but 0 5 c (all-heard (all-of 6 query))) (all-of 6 0) (all-of 6 query) (all-of 6 none)
-    ∷ accepted (all-heard (all-of 6 (val 0))) (all-of 6 0) (all-of 6 (val 0)) (all-of 6 none)
-    ∷ accepted (all-heard (all-of 6 (val 0))) (all-of 6 0) (all-of 6 query) (all-of 6 (some 0))
+    ∷ accepted (but 0 5 c (all-heard (all-of 6 query))) (all-of 6 default) (all-of 6 query) (all-of 6 none)
+    ∷ accepted (all-heard (all-of 6 (val default))) (all-of 6 default) (all-of 6 (val default)) (all-of 6 none)
+    ∷ accepted (all-heard (all-of 6 (val default))) (all-of 6 default) (all-of 6 query) (all-of 6 (some default))
     ∷ [])
-    (all-of 6 (decided 0 4))
+    (all-of 6 (decided default 4))
 
 -- 15: row 0 loses two, row 3 has two altered
 abbrev case-15 : Case
@@ -254,9 +261,10 @@ cases =
     ∷ case-11
     ∷ case-12
     ∷ case-13
-    ∷ case-14 (1 ∷ 1 ∷ 1 ∷ 2 ∷ 2 ∷ 2 ∷ []) (heard query)
-    ∷ case-14 (1 ∷ 1 ∷ 1 ∷ 1 ∷ 2 ∷ 2 ∷ []) (heard query)
-    ∷ case-14 (1 ∷ 1 ∷ 1 ∷ 2 ∷ 2 ∷ 2 ∷ []) (heard (val 7))
+    ∷ case-14 0 (1 ∷ 1 ∷ 1 ∷ 2 ∷ 2 ∷ 2 ∷ []) (heard query)
+    ∷ case-14 8 (1 ∷ 1 ∷ 1 ∷ 2 ∷ 2 ∷ 2 ∷ []) (heard query)
+    ∷ case-14 0 (1 ∷ 1 ∷ 1 ∷ 1 ∷ 2 ∷ 2 ∷ []) (heard query)
+    ∷ case-14 0 (1 ∷ 1 ∷ 1 ∷ 2 ∷ 2 ∷ 2 ∷ []) (heard (val 7))
     ∷ case-15
     ∷ decides-unheld
     ∷ tight

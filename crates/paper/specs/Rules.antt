@@ -9,7 +9,7 @@ use Rattle.paper.specs.Stations.{size, every}
 use Rattle.paper.specs.Heard.{Message, val, query, Cell, lost, heard, Row, HO, R}
 use Rattle.paper.specs.Setup.{Algorithm, A, U, Setup, passesT, passesE, vouched}
 
--- the first decision of a station, with its round
+-- the first decision of a station: the value, then its round
 pub data Decision : Type 0 where
   undecided : Decision
   decided : ℕ → ℕ → Decision
@@ -77,7 +77,7 @@ vote-or-else none m = m
 vote-or-else (some v) m = val v
 
 module _ (S : Setup) (default : ℕ) where
-  -- Algorithm 1, lines 7 and 8; Algorithm 2, lines 14 to 17. No line of a value round touches the estimate
+  -- Algorithm 1, lines 7 and 8; Algorithm 2, lines 14 to 17, with document 01 for the smallest. No line of a value round touches the estimate
   unfoldable pub next-estimate : Kind → Station → Row → ℕ
   unfolding passesT vouched size HO times smallest most-often or-else
   next-estimate update s row =
@@ -85,7 +85,7 @@ module _ (S : Setup) (default : ℕ) where
   next-estimate value s row = s .estimate
   next-estimate vote s row = or-else (smallest (S .n) row (λ v. vouched S (times (S .n) row v))) default
 
--- Algorithm 2, lines 8, 9 and 20; A has no votes
+-- Algorithm 2, lines 8, 9 and 20; A has no votes. At most one value passes T (Lemma 8), so that the smallest is that one
 unfoldable pub next-vote : Setup → Kind → Station → Row → Message
 unfolding passesT times smallest vote-or-else
 next-vote S update s row = s .vote
@@ -103,7 +103,7 @@ pub record Fires (S : Setup) (k : Kind) (row : Row) (v : ℕ) : Type 0 where
   pub rule : deciding k ≡ true
   pub enough : passesE S (times (S .n) row v) ≡ true
 
--- the value for which it fires, if any
+-- the value for which it fires, if any; at most one passes E (Lemmas 2 and 7)
 unfoldable pub fired : Setup → Kind → Row → Option ℕ
 unfolding deciding passesE times smallest
 fired S k row = cond (deciding k) (smallest (S .n) row (λ v. passesE S (times (S .n) row v))) none

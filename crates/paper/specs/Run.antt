@@ -1,5 +1,6 @@
--- Runs: document 000, section 2.1 ("each run is entirely determined by the initial configuration and the collection of the
--- reception vectors"), and the predicates of equations (2) and (7). A run here is its accepted rounds, in order.
+-- Runs: document 000, section 2.1 (a run is determined by the initial configuration and the reception vectors), and the predicates of
+-- equations (2) and (7). 000's runs go on for ever; here a run is any beginning of one, its rounds in order. A judge's run has the rounds that
+-- it accepted.
 use mathlib.Core.Path.{_≡_}
 use mathlib.Core.Bool.{true}
 use mathlib.Core.List.{List, [], _∷_}
@@ -16,7 +17,7 @@ States = ℕ → Station
 unfoldable pub opened : (ℕ → ℕ) → States
 opened starts p = record { estimate = starts p; vote = query; decision = undecided }
 
--- an accepted round: its number, the states before it, what was heard, the states after it
+-- a round: its number, the states before it, what was heard, the states after it
 pub record Turn : Type 0 where
   pub number : ℕ
   pub before : States
@@ -34,7 +35,7 @@ unfoldable pub Rounds : Setup → ℕ → ℕ → States → List Turn → Type 
 Rounds S default k s [] = Unit {0}
 Rounds S default k s (t ∷ ts) = Step S default k s t × Rounds S default (suc k) (t .after) ts
 
--- ts are the accepted rounds, in order, of a run from these starts
+-- ts are the rounds, in order, of a run from these starts
 unfoldable pub Run : Setup → ℕ → (ℕ → ℕ) → List Turn → Type 0
 unfolding Rounds opened
 Run S default starts ts = Rounds S default 0 (opened starts) ts

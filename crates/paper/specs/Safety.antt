@@ -1,14 +1,14 @@
 -- What the paper proves of its runs, as statements: Propositions 1, 2, 5 and 6 and Lemmas 5 and 9 of document 000, in the words of
--- demand 3. Each speaks of a run's accepted rounds.
+-- demand 3. Each speaks of the rounds of a run.
 use mathlib.Core.Path.{_≡_}
 use mathlib.Core.Bool.{Bool, true}
 use mathlib.Core.List.{List, [], _∷_, List·Memᴰ}
 use Prim.Native.Nat.{ℕ, _+_, _≤_, _<_}
 use lib.Dec.{eqb}
 use Rattle.paper.specs.Stations.{Stations, All, size}
-use Rattle.paper.specs.Setup.{Algorithm, A, U, Setup, passesE}
+use Rattle.paper.specs.Setup.{Algorithm, A, U, Setup, acceptable, passesE}
 use Rattle.paper.specs.Rules.{Station, Decision, undecided, decided}
-use Rattle.paper.specs.Run.{States, Turn, FiresAt}
+use Rattle.paper.specs.Run.{States, Turn, Run, Safe, FiresAt}
 
 -- the round t is among the rounds ts
 infix 40 _among_
@@ -29,12 +29,19 @@ unfoldable pub Locked : Setup → States → ℕ → Type 0
 unfolding Locked-for
 Locked S s v = Locked-for (S .algorithm) S s v
 
+-- what the paper asks of a run: the setup meets the inequalities, ts are the run's rounds, and each keeps the predicates
+pub record Lawful (S : Setup) (default : ℕ) (starts : ℕ → ℕ) (ts : List Turn) : Type 0 where
+  pub setup : acceptable S ≡ true
+  pub rounds : Run S default starts ts
+  pub safe : (t : Turn) → t among ts → Safe S t
+
 -- wherever the decide rule fires, at one station twice or at two, it names one value (Propositions 1 and 5)
 unfoldable pub Agreement : Setup → List Turn → Type 0
 Agreement S ts =
     (t u : Turn) (p q v w : ℕ) → t among ts → u among ts → p < S .n → q < S .n → FiresAt S t p v → FiresAt S u q w → v ≡ w
 
--- from the end of a round in which it fires on, the stations are locked to that value (Lemmas 5 and 9)
+-- from the end of a round in which it fires on, the stations are locked to that value (the induction in Lemma 5's proof; Lemma 9 and the
+-- induction in Proposition 5's proof)
 unfoldable pub Lock : Setup → List Turn → Type 0
 unfolding Locked
 Lock S ts =
@@ -55,7 +62,7 @@ pub record FirstFiring (S : Setup) (ts : List Turn) (p v : ℕ) (t : Turn) : Typ
 unfoldable pub Kept : Setup → List Turn → Type 0
 Kept S ts =
     (u : Turn) (p v r : ℕ) → u among ts → p < S .n → u .after p .decision ≡ decided v r
-    → (t : Turn) × FirstFiring S ts p v t × (t .number ≡ r)
+    → (t : Turn) × FirstFiring S ts p v t × (t .number ≡ r) × (r ≤ u .number)
 
 -- and a station at which the rule has fired is decided from then on
 unfoldable pub Decides : Setup → List Turn → Type 0

@@ -1,4 +1,5 @@
--- The parameters of a run and the inequalities between them: document 000, Theorems 1 and 2; document 01, "Setup".
+-- The parameters of a run and the inequalities between them: document 000, Theorems 1 and 2 (n > alpha follows from the others); document
+-- 01, the setup lines of "Algorithm A" and "Algorithm U".
 -- Each inequality has its own name. Whether a count passes T, or E, is said here and nowhere else.
 use mathlib.Core.Bool.{Bool, _&&_}
 use Prim.Native.Nat.{ℕ, _+_, _-_, _*_, max}
@@ -53,7 +54,7 @@ unfoldable pub acceptable : Setup → Bool
 unfolding acceptable-for
 acceptable S = acceptable-for (S .algorithm) S
 
--- the right side of equation (7): the largest of n + 2 alpha - E - 1, T and alpha
+-- the right side of equation (7): the largest of n + 2 alpha - E - 1, T and alpha (in an acceptable setup of U it is T)
 unfoldable pub safe-bound : Setup → ℕ
 safe-bound S = max (max (S .n + 2 * S .alpha - S .E - 1) (S .T)) (S .alpha)
 
