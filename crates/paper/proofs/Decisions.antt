@@ -1,18 +1,17 @@
 -- The decision that a station keeps is that of its first firing: until the rule fires it is undecided, and from then on `keep` leaves
 -- it alone. By induction on the rounds.
 use mathlib.Core.Path.{_≡_, refl, ap, sym, _∙_, subst}
-use mathlib.Core.Bool.{Bool, true, false, cond, true≢false}
-use mathlib.Core.List.{List, [], _∷_, List·Memᴰ, List·Memᴰ·cases-cons, List·Memᴰ·head, List·Memᴰ·tail, List·Memᴰ·not-nil}
+use mathlib.Core.Bool.{Bool, true, false, cond}
+use mathlib.Core.List.{List, [], _∷_, List·Memᴰ·cases-cons, List·Memᴰ·head, List·Memᴰ·tail, List·Memᴰ·not-nil}
 use mathlib.Core.Logic.{_⊎_, inl, inr, ⊎-elim}
 use mathlib.Core.Option.{Option, none, some}
 use Prim.Native.Nat.{ℕ, suc, _≤_, _<_}
 use native.Mathlib.Nat.{le-refl}
 use native.Mathlib.Omega.{arith}
-use Rattle.paper.specs.Stations.{All}
 use Rattle.paper.specs.Heard.{Row}
-use Rattle.paper.specs.Setup.{Setup, acceptable, passesE}
+use Rattle.paper.specs.Setup.{Setup, passesE}
 use Rattle.paper.specs.Rules.{Station, Decision, undecided, decided, Kind, kind-of, times, smallest, deciding, Fires, fired, keep, after}
-use Rattle.paper.specs.Run.{States, opened, Turn, Step, Rounds, Run, kind, FiresAt}
+use Rattle.paper.specs.Run.{States, opened, Turn, Step, Rounds, Run, FiresAt}
 use Rattle.paper.specs.Safety.{_among_, FirstFiring, Kept, Decides}
 use Rattle.paper.proofs.Smallest.{smallest-some, smallest-none}
 use Rattle.paper.proofs.MostOften.{came}

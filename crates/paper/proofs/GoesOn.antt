@@ -2,13 +2,13 @@
 -- of all runs is said of something.
 use mathlib.Core.Path.{_≡_, refl, ap, _∙_}
 use mathlib.Core.List.{List, [], _∷_, _++_}
-use Prim.Native.Nat.{ℕ, suc, zero, _+_}
+use Prim.Native.Nat.{ℕ, suc, _+_}
 use lib.ListN.{length}
 use native.Mathlib.Omega.{arith}
 use Rattle.paper.specs.Heard.{Matrix}
 use Rattle.paper.specs.Setup.{Setup}
 use Rattle.paper.specs.Rules.{after}
-use Rattle.paper.specs.Run.{States, opened, Turn, Step, Rounds, Run}
+use Rattle.paper.specs.Run.{States, opened, Turn, Rounds, Run}
 
 pub record Goes-on (S : Setup) (default : ℕ) (starts : ℕ → ℕ) (ts : List Turn) (m : Matrix) : Type 0 where
   pub next : Turn

@@ -1,16 +1,15 @@
 -- How often values come. A value came at all where it is in a cell, so the values in the cells bound all others; and counts are bounded
 -- by n, so one of them is the highest: it is found by lowering the bound until some value reaches it.
 use mathlib.Core.Path.{_≡_, refl, ap}
-use mathlib.Core.Bool.{Bool, true, false, false≢true}
+use mathlib.Core.Bool.{true, false≢true}
 use mathlib.Core.Option.{Option, none, some}
-use mathlib.Core.Logic.{_↔_, ⊎-elim}
+use mathlib.Core.Logic.{_↔_}
 use Prim.Native.Nat.{ℕ, zero, suc, _≤_, _<_, zero-le}
-use native.Mathlib.Nat.{le-refl, le-trans, le-of-suc-le-suc, eq-or-lt-of-le}
+use native.Mathlib.Nat.{le-trans}
 use native.Mathlib.Decide.{decLe}
 use native.Mathlib.Omega.{arith}
 use lib.Dec.{leb}
 use borrow.Author.Tests.{leb-true, le-leb}
-use Rattle.paper.specs.Stations.{Stations, All, _∈_, every}
 use Rattle.paper.specs.Heard.{val, query, Cell, lost, heard, Row, holds, R}
 use Rattle.paper.specs.Rules.{times, smallest, no-oftener, most-often}
 use Rattle.paper.proofs.Counting.{size-pos, size-member, size-le, every-at, every-is}

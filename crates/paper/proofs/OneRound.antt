@@ -4,31 +4,13 @@ use mathlib.Core.Path.{_≡_, refl, ap, sym, _∙_, subst}
 use mathlib.Core.Bool.{Bool, true, false, cond, false≢true}
 use mathlib.Core.List.{[], _∷_}
 use mathlib.Core.Option.{Option, none, some}
-use mathlib.Core.Logic.{_≢_}
 use Prim.Native.Nat.{ℕ, _+_, _≤_, _<_}
-use native.Mathlib.Nat.{le-refl}
 use native.Mathlib.Omega.{arith}
 use borrow.Author.Tests.{eqb-true, eq-eqb}
 use Rattle.paper.specs.Stations.{size, one, All}
-use Rattle.paper.specs.Heard.{Message, val, query, Matrix, same, HO, SHO, AHO, Q}
+use Rattle.paper.specs.Heard.{val, query, Matrix, same, HO, SHO, AHO, Q}
 use Rattle.paper.specs.Setup.{Setup, A, U, acceptable, acceptable-for, passesT, passesE, passes-bound}
-use Rattle.paper.specs.Rules.{
-  Station,
-  Kind,
-  update,
-  value,
-  vote,
-  sends,
-  times,
-  smallest,
-  most-often,
-  or-else,
-  vote-or-else,
-  next-estimate,
-  next-vote,
-  deciding,
-  Fires,
-}
+use Rattle.paper.specs.Rules.{Kind, update, value, vote, sends, times, smallest, most-often, or-else, vote-or-else, next-estimate, next-vote, deciding, Fires}
 use Rattle.paper.specs.Run.{States}
 use Rattle.paper.specs.Safety.{holders}
 use Rattle.paper.proofs.Counting.{count-le, size-all, one-le}

@@ -1,7 +1,7 @@
 -- What the rules of specs/Rules.antt do, told from outside and in numbers. What `smallest` and `most-often` find is proved already; that
 -- at most one value passes T, or E, is that two values have no sender in common, so that their counts add to n at most.
 use mathlib.Core.Path.{_≡_, refl, sym, ap, ap₂, _∙_, fun-ext}
-use mathlib.Core.Bool.{Bool, true, false, cond, _&&_, false≢true}
+use mathlib.Core.Bool.{_&&_, Bool, true, false, cond, false≢true}
 use mathlib.Core.Option.{Option, none, some, Option·none-ne-some, Option·some-ne-none, Option·some-injective}
 use mathlib.Core.Logic.{_↔_, _≢_, _⊎_, inl, inr, ⊎-elim}
 use Prim.Native.Nat.{ℕ, zero, suc, _+_, _-_, _*_, _≤_, _<_}

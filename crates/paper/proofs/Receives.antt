@@ -1,34 +1,22 @@
 -- What one receiver's row can tell it, where at most alpha of its cells are altered: a value that passes a threshold was to be sent
 -- by somebody, and a value that enough stations were to send comes through. `sent q` is what q ought to send.
-use mathlib.Core.Path.{_≡_, refl, ap, sym, _∙_, subst}
-use mathlib.Core.Bool.{Bool, true, false, false≢true}
-use mathlib.Core.Logic.{_≢_, ⊎-elim}
+use mathlib.Core.Path.{_≡_, refl, ap, sym}
+use mathlib.Core.Bool.{true}
+use mathlib.Core.Logic.{_≢_}
 use mathlib.Core.Option.{some}
 use Prim.Native.Nat.{ℕ, zero, suc, _+_, _*_, _≤_, _<_}
-use native.Mathlib.Nat.{le-refl, le-of-eq, le-trans}
+use native.Mathlib.Nat.{le-of-eq}
 use native.Mathlib.Decide.{ℕ-discrete}
 use native.Mathlib.Omega.{arith}
-use Rattle.paper.specs.Stations.{size, All}
-use Rattle.paper.specs.Heard.{Message, val, query, heard, Row, same, HO, SHO, AHO, R, Q}
+use Rattle.paper.specs.Stations.{size}
+use Rattle.paper.specs.Heard.{Message, val, heard, Row, same, HO, SHO, AHO, R, Q}
 use Rattle.paper.specs.Setup.{Setup, A, U, acceptable, acceptable-for, passesT, passesE, vouched, passes-bound}
 use Rattle.paper.specs.Rules.{times, smallest, most-often}
 use Rattle.paper.proofs.Counting.{size-le, size-member}
-use Rattle.paper.proofs.Sets.{same-eq, lemma-1, heard-split, safely-received, received-apart, senders-apart}
-use Rattle.paper.proofs.Smallest.{Least, smallest-is}
+use Rattle.paper.proofs.Sets.{same-eq, lemma-1, heard-split, safely-received, received-apart}
+use Rattle.paper.proofs.Smallest.{smallest-is}
 use Rattle.paper.proofs.MostOften.{Received, came, most-often-iff, most-often-all}
-use Rattle.paper.proofs.Thresholds.{
-  vouched-lt,
-  lt-vouched,
-  two-pass-E,
-  alpha-not-E,
-  more-pass-E,
-  more-pass-T,
-  outweighs,
-  two-pass-T,
-  bound-T,
-  passed-T,
-  bound-E,
-}
+use Rattle.paper.proofs.Thresholds.{vouched-lt, lt-vouched, alpha-not-E, more-pass-E, more-pass-T, outweighs, two-pass-T, bound-T, passed-T, bound-E}
 
 -- all who send a value send the same one
 abbrev pub OneValue : ℕ → (ℕ → Message) → Type 0

@@ -2,35 +2,23 @@
 -- the end of its round on (OneRound), and a bound run fires for that value alone. By induction on the rounds.
 use mathlib.Core.Path.{_≡_, refl, ap, sym, _∙_, subst}
 use mathlib.Core.Bool.{Bool, true, false, cond}
-use mathlib.Core.List.{List, [], _∷_, List·Memᴰ, List·Memᴰ·cases-cons, List·Memᴰ·head, List·Memᴰ·tail, List·Memᴰ·not-nil}
+use mathlib.Core.List.{List, [], _∷_, List·Memᴰ·cases-cons, List·Memᴰ·head, List·Memᴰ·tail, List·Memᴰ·not-nil}
 use mathlib.Core.Logic.{_⊎_, inl, inr, ⊎-elim}
 use Prim.Native.Nat.{ℕ, suc, _+_, _%_, _≤_, _<_}
 use native.Mathlib.Decide.{decLe}
 use native.Mathlib.Omega.{arith}
 use lib.Dec.{eqb}
 use borrow.Author.Tests.{eqb-true, eqb-false, eq-eqb, ne-eqb}
-use Rattle.paper.specs.Stations.{Stations, size, one, All}
-use Rattle.paper.specs.Heard.{Message, val, query, Matrix, SHO, AHO}
+use Rattle.paper.specs.Stations.{size, one, All}
+use Rattle.paper.specs.Heard.{Matrix, SHO, AHO}
 use Rattle.paper.specs.Setup.{Algorithm, A, U, Setup, acceptable, acceptable-for, passesE, passes-bound}
-use Rattle.paper.specs.Rules.{Station, Kind, update, value, vote, kind-of, sends, after, Fires}
+use Rattle.paper.specs.Rules.{Station, Kind, update, value, vote, kind-of, sends, after}
 use Rattle.paper.specs.Run.{States, opened, Turn, Step, Rounds, Run, kind, sent, P-alpha, P-safe, Safe, FiresAt}
 use Rattle.paper.specs.Safety.{_among_, holders, Locked-for, Locked, Lawful, Agreement, Lock, Integrity}
 use Rattle.paper.proofs.Counting.{size-all, size-cong}
 use Rattle.paper.proofs.Thresholds.{all-pass-E}
 use Rattle.paper.proofs.Rounds.{numbered, fires-in}
-use Rattle.paper.proofs.OneRound.{
-  follows,
-  Ready,
-  Bound,
-  SetupFor,
-  SafeSets,
-  Taken,
-  ready-next,
-  bound-next,
-  bound-fires,
-  fires-next,
-  fires-once,
-}
+use Rattle.paper.proofs.OneRound.{follows, Ready, Bound, SetupFor, SafeSets, Taken, ready-next, bound-next, bound-fires, fires-next, fires-once}
 
 -- document 01: a value round hands on to a vote round, and a vote round to a value round
 pub kind-follows : (a : Algorithm) (r : ℕ) → kind-of a (suc r) ≡ follows (kind-of a r)

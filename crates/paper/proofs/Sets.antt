@@ -1,13 +1,13 @@
 -- The sets HO, SHO, AHO, R and Q against one another: each law is looked at in one cell, and counted by `count-le`.
-use mathlib.Core.Path.{_≡_, refl, ap, sym, _∙_, subst}
+use mathlib.Core.Path.{_≡_, refl, ap, sym, _∙_}
 use mathlib.Core.Bool.{Bool, true, false, not, _&&_, false≢true}
 use mathlib.Core.List.{[], _∷_}
 use mathlib.Core.Logic.{_≢_}
-use Prim.Native.Nat.{ℕ, _+_, _≤_, _<_, zero-le}
+use Prim.Native.Nat.{ℕ, _+_, _≤_, zero-le}
 use native.Mathlib.Nat.{le-refl}
 use native.Mathlib.Omega.{arith}
 use borrow.Author.Tests.{eqb-true, eq-eqb}
-use Rattle.paper.specs.Stations.{Stations, one, size, All, _∖_}
+use Rattle.paper.specs.Stations.{one, size}
 use Rattle.paper.specs.Heard.{Message, val, query, Cell, lost, heard, Row, same, arrived, holds, HO, SHO, AHO, R, Q}
 use Rattle.paper.proofs.Counting.{count-le, everyone, size-everyone, one-le}
 

@@ -1,28 +1,12 @@
 -- What the setups' inequalities give the proofs: only these laws look at how a count passes T or E, and at the inequalities.
 -- Each is linear arithmetic over the inequalities of Theorems 1 and 2.
-use mathlib.Core.Path.{_≡_, refl, sym, _∙_, ap, subst}
-use mathlib.Core.Bool.{Bool, true, false, _&&_, false≢true}
+use mathlib.Core.Path.{_≡_}
+use mathlib.Core.Bool.{true}
 use Prim.Native.Nat.{ℕ, _+_, _-_, _*_, _≤_, _<_, max}
 use native.Mathlib.Omega.{arith}
-use borrow.Author.Tests.{ltb-true, leb-true, lt-ltb, le-leb, ltb-false, leb-false}
+use borrow.Author.Tests.{ltb-true, leb-true, lt-ltb, le-leb}
 use Rattle.paper.proofs.Counting.{both}
-use Rattle.paper.specs.Setup.{
-  Algorithm,
-  A,
-  U,
-  Setup,
-  passesT,
-  passesE,
-  vouched,
-  E-below-n,
-  T-below-n,
-  T-enough,
-  E-enough,
-  acceptable-for,
-  acceptable,
-  safe-bound,
-  passes-bound,
-}
+use Rattle.paper.specs.Setup.{Algorithm, A, U, Setup, passesT, passesE, vouched, E-below-n, T-below-n, T-enough, E-enough, acceptable-for, acceptable, safe-bound, passes-bound}
 
 -- the inequalities of Theorem 1 and of Theorem 2, as orders of numbers
 pub record MeetsA (S : Setup) : Type 0 where

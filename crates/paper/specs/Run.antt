@@ -7,7 +7,7 @@ use mathlib.Core.List.{List, [], _∷_}
 use Prim.Native.Nat.{ℕ, suc, _≤_}
 use Rattle.paper.specs.Stations.{All, size}
 use Rattle.paper.specs.Heard.{Message, query, Matrix, SHO, AHO}
-use Rattle.paper.specs.Setup.{A, U, Setup, passesE, passes-bound}
+use Rattle.paper.specs.Setup.{A, U, Setup, passes-bound}
 use Rattle.paper.specs.Rules.{Station, undecided, Kind, kind-of, sends, after, Fires}
 
 abbrev pub States : Type 0

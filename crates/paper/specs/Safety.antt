@@ -1,13 +1,13 @@
 -- What the paper proves of its runs, as statements: Propositions 1, 2, 5 and 6 and Lemmas 5 and 9 of document 000, in the words of
 -- demand 3. Each speaks of the rounds of a run.
 use mathlib.Core.Path.{_≡_}
-use mathlib.Core.Bool.{Bool, true}
-use mathlib.Core.List.{List, [], _∷_, List·Memᴰ}
+use mathlib.Core.Bool.{true}
+use mathlib.Core.List.{List, List·Memᴰ}
 use Prim.Native.Nat.{ℕ, _+_, _≤_, _<_}
 use lib.Dec.{eqb}
 use Rattle.paper.specs.Stations.{Stations, All, size}
 use Rattle.paper.specs.Setup.{Algorithm, A, U, Setup, acceptable, passesE}
-use Rattle.paper.specs.Rules.{Station, Decision, undecided, decided}
+use Rattle.paper.specs.Rules.{undecided, decided}
 use Rattle.paper.specs.Run.{States, Turn, Run, Safe, FiresAt}
 
 -- the round t is among the rounds ts

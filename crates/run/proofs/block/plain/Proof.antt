@@ -1,0 +1,12 @@
+-- `run::block::plain` meets its contract: it is the definition, field by field.
+use borrow.Author.Needs.{needs}
+use Rattle.run.specs.Block.{plain}
+use Rattle.run.proofs.block.plain.Statement.{statement}
+use Rattle.run.proofs.block.plain.Tie as tie
+
+returns : tie.Need-returns
+unfolding plain
+returns c = search needs
+
+pub plain-spec : {M : Type 1} → statement M
+plain-spec = tie.close (tie.spec returns)

@@ -1,0 +1,10 @@
+-- A part written record by record: document 01, "Tape" and "Run and image", whose openings, rounds and images are records in a stated order.
+use Prim.Native.Nat.{ℕ, zero, suc}
+use mathlib.Core.List.{List, [], _++_}
+use Rattle.run.specs.Record.{recordBytes}
+use Rattle.run.specs.declared.record.Record.{Record}
+
+-- the bytes of the first n records, record i being f i
+unfoldable pub written : ℕ → (ℕ → Record) → List ℕ
+written zero f = []
+written (suc n) f = written n f ++ recordBytes (f n)
