@@ -6,6 +6,7 @@ pub mod Written
 pub mod First
 pub mod Filled
 pub mod Replies
+pub mod Unique
 pub mod Blocks
 pub mod Asked
 pub mod Inequalities

@@ -1,0 +1,72 @@
+-- Demand 3: an opened run stands at its starts and keeps the rules, so its accepted rounds are a lawful run of the paper (Lawful), of which
+-- the paper's safety is proved.
+use mathlib.Core.Path.{_≡_, refl, ap, sym, _∙_, subst}
+use mathlib.Core.Bool.{Bool, true, false, cond}
+use mathlib.Core.List.{List, [], _∷_}
+use Prim.Native.Nat.{ℕ, suc, _+_, _≤_, _<_}
+use native.Mathlib.Omega.{arith}
+use lib.ListN.{getD, getD-replicate}
+use Rattle.paper.specs.Stations.{All}
+use Rattle.paper.specs.Setup as setup
+use Rattle.paper.specs.Run as paper
+use Rattle.paper.specs.Safety as safety
+use Rattle.paper.proofs.Safety.{agreement, lock, integrity}
+use Rattle.paper.proofs.Decisions.{kept, decides}
+use Rattle.run.specs.declared.Setup.{Setup}
+use Rattle.run.specs.declared.Run.{Run}
+use Rattle.run.specs.Keeps.{Keeps}
+use Rattle.run.specs.Run.{stations, setup-of}
+use Rattle.run.specs.Opening.{run-from}
+use Rattle.run.proofs.Sound.{setup-iff}
+use Rattle.round.specs.Survey.{station}
+use Rattle.judge.specs.Step.{paper-setup}
+use Rattle.consensus.specs.Offered.{accepted}
+use Rattle.consensus.specs.Demand3.{Demand3}
+use Rattle.consensus.proofs.Lawful.{follows}
+
+-- rounds that follow from some states follow from the same states told otherwise
+rounds-from : (S : setup.Setup) (d k : ℕ) (s s′ : paper.States) (ts : List paper.Turn) → All (S .n) (λ p. s p ≡ s′ p)
+    → paper.Rounds S d k s ts → paper.Rounds S d k s′ ts
+unfolding paper.Rounds
+rounds-from S d k s s′ [] same rounds = tt
+rounds-from S d k s s′ (t ∷ ts) same rounds =
+    (record { counted = rounds .0 .counted; from = λ p h. rounds .0 .from p h ∙ same p h; by-rule = rounds .0 .by-rule }, rounds .1)
+
+-- the starts of a run that was opened
+abbrev starts : Run → ℕ → ℕ
+starts run p = getD (run .estimates) p 0
+
+-- an opened run stands at its starts
+stands : (s : Setup) (d : ℕ) (estimates : List ℕ) (p : ℕ) → p < stations
+    → station (run-from s d estimates) p ≡ paper.opened (λ q. getD estimates q 0) p
+unfolding station run-from paper.opened
+stands s d estimates p h = rw (getD-replicate stations p false false h)
+
+module _ (s : Setup) (d : ℕ) (estimates : List ℕ) (keeps : Keeps (run-from s d estimates)) (offers : List (List ℕ)) where
+  abbrev run : Run
+  run = run-from s d estimates
+
+  abbrev ts : List paper.Turn
+  ts = accepted run offers
+
+  lawful : safety.Lawful (paper-setup run) (run .default) (starts run) ts
+  unfolding run-from paper.Run setup-of
+  lawful =
+      let on = follows offers run keeps in
+      record {
+        setup = setup-iff (run .setup) .1 (keeps .setup) .1;
+        rounds =
+            rounds-from (paper-setup run) d 0 (station run) (paper.opened (starts run)) ts
+            (λ p h. stands s d estimates p (omega (arith, keeps .setup .n-to))) (on .0);
+        safe = on .1;
+      }
+
+  pub demand-3-of : Demand3 run offers
+  demand-3-of =
+      record {
+        one-value = agreement (paper-setup run) (run .default) (starts run) ts lawful;
+        locked = lock (paper-setup run) (run .default) (starts run) ts lawful;
+        integrity = integrity (paper-setup run) (run .default) (starts run) ts lawful;
+        kept = kept (paper-setup run) (run .default) (starts run) ts (lawful .rounds);
+        decides = decides (paper-setup run) (run .default) (starts run) ts (lawful .rounds);
+      }

@@ -1,0 +1,3 @@
+-- Demand 3 about the judge.
+pub mod Lawful
+pub mod Demand3

@@ -1,0 +1,180 @@
+-- The checks of a step, as the code makes them: a mask has as many ones as its set has stations, so 6 and 7 asked of the masks are those of
+-- the sets; and a check of two parts refuses where the first that refuses does.
+use mathlib.Core.Path.{_≡_, refl, ap, ap₂, sym, _∙_}
+use mathlib.Core.Bool.{Bool, true, false, cond}
+use mathlib.Core.List.{List}
+use Prim.Native.Nat.{ℕ, _+_, _-_, _≤_, _<_}
+use native.Mathlib.Omega.{arith}
+use lib.Count.{ones}
+use lib.Dec.{eqb, leb, ltb}
+use lib.ListN.{length, getD}
+use borrow.Author.Tests.{ltb-true, eq-eqb, ne-eqb, lt-ltb, le-ltb}
+use Rattle.paper.specs.Heard as heard
+use Rattle.paper.specs.Setup as setup
+use Rattle.run.specs.declared.Reply.{Reply}
+use Rattle.run.specs.declared.Reply.the-variants.{Accepted, Length, Altered, Unsafe, Full, Rules}
+use Rattle.run.specs.declared.Run.{Run}
+use Rattle.run.specs.declared.Setup.{Setup}
+use Rattle.run.specs.Keeps.{Keeps}
+use Rattle.run.specs.Reply.{is-accepted, _then_, or-refuse}
+use Rattle.run.specs.Run.{stations, most-rounds, is-U, sound}
+use Rattle.run.proofs.Filled.{filled-below}
+use Rattle.run.proofs.Replies.{then-on, then-stop, then-accepted, or-refuse-accepted}
+use Rattle.run.proofs.Sound.{sound-iff}
+use Rattle.round.specs.Masks.{mask}
+use Rattle.round.specs.Reading.{in-turn, votes-next, round-length, check-cells, heard-in}
+use Rattle.round.specs.Survey.{sent-next, sets-of, ho-sets, sho-sets, rows-surveyed}
+use Rattle.round.proofs.Turns.{turn-returns, turn-on, turn-same}
+use Rattle.round.proofs.Hearing.{safe-told, altered-told}
+use Rattle.round.proofs.Surveyed.{surveyed-ho, surveyed-sho}
+use Rattle.judge.specs.declared.Stepped.{Stepped}
+use Rattle.judge.specs.Step.{paper-setup, altered, safe, check-altered, check-safe, check-step, accepted, refused, step-of}
+use Rattle.judge.specs.Taking.{check-bytes, few-in, enough-in, check-sets, Taking}
+
+-- ---- a test asked in turn, with the refusal at its place
+module _ (test : ℕ → Bool) (r : ℕ → Reply) (refuses : (i : ℕ) → is-accepted (r i) ≡ false) where
+  abbrev asked : ℕ → Reply
+  asked i = or-refuse (test i) (r i)
+
+  pub asked-refused : (n i : ℕ) → in-turn i asked ≡ Accepted → test i ≡ false → i < n → r i ≡ in-turn n asked
+  asked-refused n i before e l = turn-returns asked n i before (rw e) (rw e (refuses i)) l
+
+  pub asked-on : (i : ℕ) → in-turn i asked ≡ Accepted → test i ≡ true → in-turn (i + 1) asked ≡ Accepted
+  asked-on i before e = turn-on asked i before (rw e)
+
+-- ---- 6, then 7
+module _ (s : Setup) (ho sho : List ℕ) where
+  pub sets-few : is-accepted (few-in s ho sho) ≡ false → few-in s ho sho ≡ check-sets s ho sho
+  unfolding check-sets
+  sets-few f = sym (then-stop (few-in s ho sho) (cond (is-U s) (enough-in s sho) Accepted) f)
+
+  pub sets-enough : few-in s ho sho ≡ Accepted → (u : Bool) → u ≡ is-U s → cond u (enough-in s sho) Accepted ≡ check-sets s ho sho
+  unfolding check-sets
+  sets-enough few u e =
+      ap (λ (b : Bool). cond b (enough-in s sho) Accepted) e
+      ∙ sym (then-on (few-in s ho sho) (cond (is-U s) (enough-in s sho) Accepted) (ap is-accepted few))
+
+-- ---- the masks tell the sizes of the sets
+module _ (run : Run) (bs : List ℕ) (few : run .setup .n ≤ stations) where
+  abbrev n : ℕ
+  n = run .setup .n
+
+  pub ho-at : (p : ℕ) → p < n → getD (ho-sets n bs) p 0 ≡ sets-of n (heard-in n bs p) (sent-next run) .ho
+  unfolding ho-sets sets-of
+  ho-at p l = filled-below stations n (λ p. mask n (heard.HO (heard-in n bs p))) 0 p 0 (omega arith) l
+
+  sho-at : (p : ℕ) → p < n → getD (sho-sets run n bs) p 0 ≡ sets-of n (heard-in n bs p) (sent-next run) .sho
+  unfolding sho-sets sets-of
+  sho-at p l = filled-below stations n (λ p. mask n (heard.SHO (heard-in n bs p) (sent-next run))) 0 p 0 (omega arith) l
+
+  few-told : few-in (run .setup) (ho-sets n bs) (sho-sets run n bs) ≡ check-altered run bs
+  unfolding few-in check-altered
+  few-told = turn-same n _ _ (λ p l. ap (λ (k : ℕ). or-refuse (leb k (run .setup .alpha)) (Altered p)) (at p l))
+    where
+      at : (p : ℕ) → p < n → ones (getD (ho-sets n bs) p 0 - getD (sho-sets run n bs) p 0) ≡ altered run bs p
+      at p l = rw (ho-at p l, sho-at p l) (altered-told n (heard-in n bs p) (sent-next run))
+
+  enough-told : cond (is-U (run .setup)) (enough-in (run .setup) (sho-sets run n bs)) Accepted ≡ check-safe run bs
+  unfolding enough-in check-safe
+  enough-told =
+      ap (λ (r : Reply). cond (is-U (run .setup)) r Accepted)
+      (turn-same n _ _ (λ p l. ap (λ (k : ℕ). or-refuse (setup.passes-bound (paper-setup run) k) (Unsafe p)) (at p l)))
+    where
+      at : (p : ℕ) → p < n → ones (getD (sho-sets run n bs) p 0) ≡ safe run bs p
+      at p l = rw (sho-at p l) (safe-told n (heard-in n bs p) (sent-next run))
+
+  sets-told : check-sets (run .setup) (ho-sets n bs) (sho-sets run n bs) ≡ (check-altered run bs then check-safe run bs)
+  unfolding check-sets
+  sets-told = ap₂ (λ (a b : Reply). a then b) few-told enough-told
+
+-- ---- the two parts are the checks of a step
+then-then : (a b c : Reply) → ((a then b) then c) ≡ (a then (b then c))
+then-then a b c = go (is-accepted a) refl
+  where
+    go : (t : Bool) → is-accepted a ≡ t → ((a then b) then c) ≡ (a then (b then c))
+    go true e = rw e
+    go false e = rw (e, e)
+
+module _ (run : Run) (bs : List ℕ) where
+  abbrev sets-on : Reply
+  sets-on = check-altered run bs then check-safe run bs
+
+  abbrev cells : Reply
+  cells = check-cells (votes-next run) (run .setup .n) bs
+
+  abbrev long : Reply
+  long = or-refuse (eqb (length bs) (round-length (run .setup .n))) Length
+
+  abbrev room : Reply
+  room = or-refuse (ltb (run .clock) most-rounds) Full
+
+  abbrev keeps : Reply
+  keeps = or-refuse (sound run) (Rules 0)
+
+  step-parts : check-step run bs ≡ (check-bytes run bs then sets-on)
+  unfolding check-step check-bytes
+  step-parts =
+      sym
+      (then-then keeps (room then long then cells) sets-on
+      ∙ ap (λ (r : Reply). keeps then r) (then-then room (long then cells) sets-on ∙ ap (λ (r : Reply). room then r) (then-then long cells sets-on)))
+
+  -- a refusal by the bytes is the step's
+  pub bytes-refused : {reply : Reply} → reply ≡ check-bytes run bs → is-accepted (check-bytes run bs) ≡ false → refused reply run ≡ step-of run bs
+  unfolding step-of
+  bytes-refused e f =
+      let stopped : check-step run bs ≡ check-bytes run bs = step-parts ∙ then-stop (check-bytes run bs) sets-on f in
+      rw (stopped, f, e)
+
+  -- and so is the first check of the bytes that fails
+  pub bytes-unsound : sound run ≡ false → Rules 0 ≡ check-bytes run bs
+  unfolding check-bytes
+  bytes-unsound e = rw e
+
+  pub bytes-full : sound run ≡ true → most-rounds ≤ run .clock → Full ≡ check-bytes run bs
+  unfolding check-bytes
+  bytes-full e l = rw (e, le-ltb (run .clock) most-rounds l)
+
+  pub bytes-length : sound run ≡ true → run .clock < most-rounds → (length bs ≡ round-length (run .setup .n) → ⊥) → Length ≡ check-bytes run bs
+  unfolding check-bytes
+  bytes-length e l h = rw (e, lt-ltb (run .clock) most-rounds l, ne-eqb _ _ h)
+
+  pub bytes-cells : sound run ≡ true → run .clock < most-rounds → length bs ≡ round-length (run .setup .n) → cells ≡ check-bytes run bs
+  unfolding check-bytes
+  bytes-cells e l h = rw (e, lt-ltb (run .clock) most-rounds l, eq-eqb _ _ h)
+
+  -- what bytes that are in order tell, and the sets that are then found
+  pub taking : check-bytes run bs ≡ Accepted
+      → Taking run bs (votes-next run) (rows-surveyed (votes-next run) run bs .ho) (rows-surveyed (votes-next run) run bs .sho)
+  unfolding check-bytes
+  taking e =
+      let (first, after-first) = then-accepted keeps (room then long then cells) e in
+      let (second, after-second) = then-accepted room (long then cells) after-first in
+      let (third, fourth) = then-accepted long cells after-second in
+      let rules : Keeps run = sound-iff run .0 (or-refuse-accepted (sound run) (Rules 0) refl first) in
+      record {
+        keeps = rules;
+        room = ltb-true (run .clock) most-rounds (or-refuse-accepted (ltb (run .clock) most-rounds) Full refl second);
+        flag = refl;
+        records = fourth;
+        heard = surveyed-ho run bs (rules .setup .n-to) fourth;
+        safely = surveyed-sho run bs (rules .setup .n-to) fourth;
+      }
+
+  -- then 6 and 7 are the step's checks that are left
+  module _ (votes : Bool) (ho sho : List ℕ) (t : Taking run bs votes ho sho) (good : check-bytes run bs ≡ Accepted) where
+    sets-step : check-sets (run .setup) ho sho ≡ check-step run bs
+    sets-step =
+        rw (t .heard, t .safely, step-parts, good) (sets-told run bs (t .keeps .setup .n-to))
+
+    pub sets-refused : {reply : Reply} → reply ≡ check-sets (run .setup) ho sho → is-accepted (check-sets (run .setup) ho sho) ≡ false
+        → refused reply run ≡ step-of run bs
+    unfolding step-of
+    sets-refused e f = rw (← sets-step, f, e)
+
+    pub sets-accepted : check-sets (run .setup) ho sho ≡ Accepted → accepted run bs ≡ step-of run bs
+    unfolding step-of
+    sets-accepted e = rw (← sets-step, e)
+
+-- a step is the one that its contract names, and no other
+pub step-unique : (run : Run) (bs : List ℕ) (r r′ : Stepped) → r ≡ step-of run bs → r′ ≡ step-of run bs → r ≡ r′
+step-unique run bs r r′ p q = p ∙ sym q

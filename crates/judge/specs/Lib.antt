@@ -1,0 +1,5 @@
+-- What the contracts of this crate cite.
+pub mod Step
+pub mod Outcome
+pub mod Taking
+pub mod Play

@@ -1,0 +1,48 @@
+-- `round::read::fill` meets its contract: each turn stores the cell of the next record at its place, which is one that no record before it has.
+use mathlib.Core.Path.{_≡_}
+use Prim.Native.Nat.{_-_, _*_, _≤_}
+use native.Mathlib.Omega.{arith}
+use borrow.Author.Needs.{needs}
+use Rattle.round.specs.Reading.{matrix-of}
+use Rattle.round.proofs.Matrices.{so-far, filling-none, filling-more, filling-done}
+use Rattle.round.proofs.read.fill.Statement.{statement}
+use Rattle.round.proofs.read.fill.Tie as tie
+
+abbrev Inv-loop : tie.InvT-loop
+Inv-loop round n slots₀ size all k₀ slots k = (k ≤ all) × (slots ≡ matrix-of (so-far n round k) .slots)
+
+abbrev μ-loop : tie.MeasureT-loop
+μ-loop round n slots₀ size all k₀ slots k = all - k
+
+loop-again : tie.Need-loop-again Inv-loop μ-loop
+loop-again c =
+    let place = c .before .before in
+    let head = place .before .before in (
+      omega arith,
+      rw (place .place-of .ensures .0, head .loop .inv .1)
+          (filling-more _ _ _ _ (omega arith) (omega arith) (rw (← c .before .record-at .ensures) (c .cell-in .ensures))),
+    )
+
+returns : tie.Need-returns Inv-loop μ-loop
+returns c =
+    let n = c .before .before .before .before .args .n in
+    let done : c .before .loop .k ≡ n * n = omega arith in
+    filling-done _ _ _ (rw done at (c .before .loop .inv .1))
+
+pub fill-spec : {M : Type 1} → statement M
+fill-spec =
+    tie.close
+    (tie.spec
+    Inv-loop
+    μ-loop
+    (λ c κs. search needs)
+    (λ c. (omega arith, filling-none _ _))
+    (λ c κs. search needs)
+    (λ c κs. search needs)
+    (λ c κs. search needs)
+    (λ c. search needs)
+    (λ c. search needs)
+    (λ c. search needs)
+    (λ c. search needs)
+    loop-again
+    returns)
