@@ -14,10 +14,13 @@ use Rattle.paper.proofs.Safety.{agreement, lock, integrity}
 use Rattle.paper.proofs.Decisions.{kept, decides}
 use Rattle.run.specs.declared.Setup.{Setup}
 use Rattle.run.specs.declared.Run.{Run}
+use Rattle.run.specs.declared.Opened.{Opened}
+use Rattle.run.specs.declared.Reply.the-variants.{Accepted}
 use Rattle.run.specs.Keeps.{Keeps}
 use Rattle.run.specs.Run.{stations, setup-of}
-use Rattle.run.specs.Opening.{run-from}
-use Rattle.run.proofs.Sound.{setup-iff}
+use Rattle.run.specs.Opening.{setup-in, default-in, starts-in, check-opening, run-from, read-opening}
+use Rattle.run.proofs.Sound.{setup-iff, sound-iff}
+use Rattle.run.proofs.Openings.{opened, opened-sound}
 use Rattle.round.specs.Survey.{station}
 use Rattle.judge.specs.Step.{paper-setup}
 use Rattle.consensus.specs.Offered.{accepted}
@@ -70,3 +73,11 @@ module _ (s : Setup) (d : ℕ) (estimates : List ℕ) (keeps : Keeps (run-from s
         kept = kept (paper-setup run) (run .default) (starts run) ts (lawful .rounds);
         decides = decides (paper-setup run) (run .default) (starts run) ts (lawful .rounds);
       }
+
+-- demand 3: nothing is asked but that these bytes are accepted as an opening
+pub demand-3 : (bs : List ℕ) → check-opening bs ≡ Accepted → (offers : List (List ℕ)) → Demand3 (read-opening bs .run) offers
+demand-3 bs ok offers =
+    let at : read-opening bs .run ≡ run-from (setup-in bs) (default-in bs) (starts-in bs) = ap (λ (o : Opened). o .run) (opened bs ok) in
+    let keeps : Keeps (read-opening bs .run) = sound-iff (read-opening bs .run) .0 (opened-sound bs ok) in
+    subst (λ (run : Run). Demand3 run offers) (sym at)
+    (demand-3-of (setup-in bs) (default-in bs) (starts-in bs) (subst Keeps at keeps) offers)

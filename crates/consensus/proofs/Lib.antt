@@ -1,3 +1,6 @@
--- Demand 3 about the judge.
+-- The demands about the judge, proved.
 pub mod Lawful
+pub mod Demand2
+pub mod Empty
 pub mod Demand3
+pub mod Owned

@@ -1,3 +1,5 @@
--- What demand 3 is stated by.
+-- What the demands are stated by.
+pub mod Demand2
+pub mod Empty
 pub mod Offered
 pub mod Demand3

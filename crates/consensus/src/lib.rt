@@ -1,1 +1,1 @@
-// Demand 3 about the judge: definitions (specs/) and theorems (proofs/). There is no code here.
+// The demands about the judge: definitions (specs/) and theorems (proofs/). There is no code here.

@@ -1,0 +1,244 @@
+-- The step meets demands 1 and 2: its checks, taken one by one, are the well formed records and the paper's predicates, and its answer is
+-- made of the paper's stations, firings and sets.
+use mathlib.Core.Path.{_≡_, refl, ap, sym, _∙_, subst}
+use mathlib.Core.Bool.{Bool, true, false, cond, false≢true}
+use mathlib.Core.List.{List}
+use mathlib.Core.Option.{Option, none, some}
+use mathlib.Core.Logic.{_↔_, ⊎-elim}
+use Prim.Native.Nat.{ℕ, suc, _+_, _*_, _/_, _%_, _^_, _≤_, _<_}
+use native.Mathlib.Numerals.{add-one}
+use native.Mathlib.Omega.{arith}
+use lib.ListN.{length, getD}
+use lib.Dec.{eqb, leb, ltb}
+use borrow.Author.Tests.{eqb-true, eq-eqb, lt-ltb, le-leb}
+use Rattle.paper.specs.Stations.{one, size}
+use Rattle.paper.specs.Heard as heard
+use Rattle.paper.specs.Setup as setup
+use Rattle.paper.specs.Rules as rules
+use Rattle.paper.specs.Run as paper
+use Rattle.paper.proofs.Pins.{fired-iff}
+use Rattle.run.specs.declared.Run.{Run}
+use Rattle.run.specs.declared.Reply.{Reply}
+use Rattle.run.specs.declared.Reply.the-variants.{Accepted, Length, Altered, Unsafe, Full, Rules}
+use Rattle.run.specs.Keeps.{Keeps}
+use Rattle.run.specs.Reply.{is-accepted, _then_, or-refuse}
+use Rattle.run.specs.Run.{stations, most-rounds, is-U, setup-of, sound}
+use Rattle.run.proofs.Replies.{then-accepted, accepted-then, or-refuse-accepted, accepted-or-refuse}
+use Rattle.run.proofs.Sound.{sound-iff}
+use Rattle.run.proofs.Filled.{filled-below}
+use Rattle.round.specs.Masks.{mask}
+use Rattle.round.specs.Reading.{in-turn, votes-next, round-length, check-cells, heard-in}
+use Rattle.round.specs.Survey.{station, kind-next, sent-next, ho-sets, sho-sets}
+use Rattle.round.specs.Tally.{is-there, value-or-0}
+use Rattle.round.proofs.Masks.{mask-bit}
+use Rattle.round.proofs.Readings.{cells-accepted}
+use Rattle.round.proofs.Turns.{turn-accepted}
+use Rattle.judge.specs.declared.Stepped.{Stepped}
+use Rattle.judge.specs.Step.{paper-setup, altered, safe, check-altered, check-safe, check-step, accepted, refused, step-of, run-after, station-after, fired-at}
+use Rattle.judge.proofs.Stations.{station-next}
+use Rattle.judge.proofs.Steps.{Passed, passed, step-checked, step-accepted, refused-same, setup-same, default-same, clock-next, keeps-next}
+use Rattle.consensus.specs.Demand2.{round, WellFormed, Follows, Demand2}
+
+-- the step says what its checks say
+says-check : (run : Run) (bs : List ℕ) → step-of run bs .reply ≡ check-step run bs
+unfolding step-of accepted
+says-check run bs = go (is-accepted (check-step run bs)) refl
+  where
+    go : (b : Bool) → is-accepted (check-step run bs) ≡ b → cond b (accepted run bs) (refused (check-step run bs) run) .reply ≡ check-step run bs
+    go true q = sym (Rattle.run.proofs.Replies.accepted-is (check-step run bs) q)
+    go false q = refl
+
+module _ (run : Run) (bs : List ℕ) where
+  abbrev n : ℕ
+  n = run .setup .n
+
+  -- what each station ought to send in a round of this number
+  abbrev Sent : ℕ → ℕ → heard.Message
+  Sent r q = rules.sends (rules.kind-of (paper-setup run .algorithm) r) (station run q)
+
+  -- the predicates of the round, as the checks ask them and as the paper does
+  few-iff : check-altered run bs ≡ Accepted ↔ paper.P-alpha (paper-setup run) (round run bs)
+  unfolding check-altered paper.P-alpha paper.sent paper.kind round setup-of sent-next kind-next
+  few-iff = (
+    λ e p h.
+        subst (λ (r : ℕ). size n (heard.AHO (heard-in n bs p) (Sent r)) ≤ run .setup .alpha) (add-one (run .clock))
+        (borrow.Author.Tests.leb-true _ (run .setup .alpha) (or-refuse-accepted _ (Altered p) refl (turn-accepted _ n .0 e p h))),
+    λ few.
+        turn-accepted _ n .1
+        (λ p h.
+        accepted-or-refuse _ (Altered p)
+        (le-leb _ (run .setup .alpha)
+        (subst (λ (r : ℕ). size n (heard.AHO (heard-in n bs p) (Sent r)) ≤ run .setup .alpha) (sym (add-one (run .clock))) (few p h)))),
+  )
+
+  -- U's predicate at each station, in a round of this number
+  abbrev Large : ℕ → Type 0
+  Large r = (p : ℕ) → p < n → setup.passes-bound (paper-setup run) (size n (heard.SHO (heard-in n bs p) (Sent r))) ≡ true
+
+  abbrev large-at : ℕ → Reply
+  large-at p = or-refuse (setup.passes-bound (paper-setup run) (safe run bs p)) (Unsafe p)
+
+  large-iff : in-turn n large-at ≡ Accepted ↔ Large (run .clock + 1)
+  unfolding sent-next kind-next setup-of
+  large-iff = (
+    λ e p h. or-refuse-accepted _ (Unsafe p) refl (turn-accepted large-at n .0 e p h),
+    λ all. turn-accepted large-at n .1 (λ p h. accepted-or-refuse _ (Unsafe p) (all p h)),
+  )
+
+  safe-iff : check-safe run bs ≡ Accepted ↔ (paper-setup run .algorithm ≡ setup.U → paper.P-safe (paper-setup run) (round run bs))
+  unfolding check-safe paper.P-safe paper.sent paper.kind round setup-of
+  safe-iff = go (is-U (run .setup)) refl
+    where
+      A-not-U : setup.A ≡ setup.U → ⊥
+      A-not-U e = let z : _≡_ {A = ℕ} 0 1 = cc in omega arith
+
+      go : (b : Bool) → is-U (run .setup) ≡ b
+          → cond b (in-turn n large-at) Accepted ≡ Accepted ↔ (cond b setup.U setup.A ≡ setup.U → Large (suc (run .clock)))
+      go true q = (
+        λ e u. subst Large (add-one (run .clock)) (large-iff .0 e),
+        λ all. large-iff .1 (subst Large (sym (add-one (run .clock))) (all refl)),
+      )
+      go false q = (λ e u. absurd (A-not-U u), λ all. refl)
+
+  -- the checks of a step, from each one on
+  abbrev from-sets : Reply
+  from-sets = check-altered run bs then check-safe run bs
+
+  abbrev from-cells : Reply
+  from-cells = check-cells (votes-next run) n bs then from-sets
+
+  abbrev from-length : Reply
+  from-length = or-refuse (eqb (length bs) (round-length n)) Length then from-cells
+
+  abbrev from-room : Reply
+  from-room = or-refuse (ltb (run .clock) most-rounds) Full then from-length
+
+  Wanted : Type 0
+  Wanted = WellFormed run bs × paper.Safe (paper-setup run) (round run bs)
+
+  taken-apart : check-step run bs ≡ Accepted → Wanted
+  unfolding check-step Wanted
+  taken-apart e =
+      let (first, on-first) = then-accepted (or-refuse (sound run) (Rules 0)) from-room e in
+      let (second, on-second) = then-accepted (or-refuse (ltb (run .clock) most-rounds) Full) from-length on-first in
+      let (third, on-third) = then-accepted (or-refuse (eqb (length bs) (round-length n)) Length) from-cells on-second in
+      let (fourth, on-fourth) = then-accepted (check-cells (votes-next run) n bs) from-sets on-third in
+      let (fifth, sixth) = then-accepted (check-altered run bs) (check-safe run bs) on-fourth in
+      let spelled = cells-accepted (votes-next run) n bs .0 fourth in (
+        record {
+          long = eqb-true (length bs) (round-length n) (or-refuse-accepted (eqb (length bs) (round-length n)) Length refl third);
+          fits = λ p q hp hq. spelled p q hp hq .0;
+          queries = λ p q hp hq. spelled p q hp hq .1;
+        },
+        record { few-altered = few-iff .0 fifth; enough-safe = safe-iff .0 sixth },
+      )
+
+  put-together : sound run ≡ true → run .clock < most-rounds → Wanted → check-step run bs ≡ Accepted
+  unfolding check-step Wanted
+  put-together ok room want =
+      accepted-then (or-refuse (sound run) (Rules 0)) from-room (accepted-or-refuse (sound run) (Rules 0) ok)
+      (accepted-then (or-refuse (ltb (run .clock) most-rounds) Full) from-length
+      (accepted-or-refuse (ltb (run .clock) most-rounds) Full (lt-ltb (run .clock) most-rounds room))
+      (accepted-then (or-refuse (eqb (length bs) (round-length n)) Length) from-cells
+      (accepted-or-refuse (eqb (length bs) (round-length n)) Length (eq-eqb (length bs) (round-length n) (want .0 .long)))
+      (accepted-then (check-cells (votes-next run) n bs) from-sets
+      (cells-accepted (votes-next run) n bs .1 (λ p q hp hq. (want .0 .fits p q hp hq, want .0 .queries p q hp hq)))
+      (accepted-then (check-altered run bs) (check-safe run bs) (few-iff .1 (want .1 .few-altered)) (safe-iff .1 (want .1 .enough-safe))))))
+
+  step-accepts : sound run ≡ true → run .clock < most-rounds → (is-accepted (step-of run bs .reply) ≡ true) ↔ Wanted
+  step-accepts ok room = (
+    λ e. taken-apart (step-checked run bs e),
+    λ want. ap is-accepted (says-check run bs ∙ put-together ok room want),
+  )
+
+there-iff : (o : Option ℕ) (v : ℕ) → ((is-there o ≡ true) × (value-or-0 o ≡ v)) ↔ (o ≡ some v)
+there-iff none v = (λ h. absurd (false≢true (h .0)), λ e. let z : _≡_ {A = ℕ} 0 1 = cc in absurd (omega arith))
+there-iff (some w) v = (λ h. ap some (h .1), λ e. (refl, cc))
+
+-- E is at least half of n, under either algorithm
+E-half : (run : Run) → Keeps run → run .setup .n ≤ 2 * run .setup .e
+E-half run keeps = ⊎-elim (λ a. omega (arith, keeps .setup .T-under-A a)) (λ u. omega (arith, keeps .setup .E-under-U u)) (keeps .setup .algorithm)
+
+module _ (run : Run) (bs : List ℕ) (e : is-accepted (step-of run bs .reply) ≡ true) where
+  ok : Passed run bs
+  ok = passed run bs e
+
+  is-accepted-answer : step-of run bs ≡ accepted run bs
+  is-accepted-answer = step-accepted run bs (step-checked run bs e)
+
+  few-enough : run .setup .n ≤ stations
+  few-enough = ok .keeps .setup .n-to
+
+  -- what is in place p of the answer's arrays
+  fires-at : (p : ℕ) → p < run .setup .n → getD (step-of run bs .fires) p false ≡ is-there (fired-at run bs p)
+  unfolding accepted
+  fires-at p h =
+      ap (λ (s : Stepped). getD (s .fires) p false) is-accepted-answer
+      ∙ filled-below stations (run .setup .n) (λ q. is-there (fired-at run bs q)) false p false (omega (arith, few-enough)) h
+
+  fired-value : (p : ℕ) → p < run .setup .n → getD (step-of run bs .fired) p 0 ≡ value-or-0 (fired-at run bs p)
+  unfolding accepted
+  fired-value p h =
+      ap (λ (s : Stepped). getD (s .fired) p 0) is-accepted-answer
+      ∙ filled-below stations (run .setup .n) (λ q. value-or-0 (fired-at run bs q)) 0 p 0 (omega (arith, few-enough)) h
+
+  ho-at : (p : ℕ) → p < run .setup .n → getD (step-of run bs .ho) p 0 ≡ mask (run .setup .n) (heard.HO (heard-in (run .setup .n) bs p))
+  unfolding accepted ho-sets
+  ho-at p h =
+      ap (λ (s : Stepped). getD (s .ho) p 0) is-accepted-answer
+      ∙ filled-below stations (run .setup .n) (λ q. mask (run .setup .n) (heard.HO (heard-in (run .setup .n) bs q))) 0 p 0 (omega (arith, few-enough)) h
+
+  sho-at : (p : ℕ) → p < run .setup .n
+      → getD (step-of run bs .sho) p 0 ≡ mask (run .setup .n) (heard.SHO (heard-in (run .setup .n) bs p) (sent-next run))
+  unfolding accepted sho-sets
+  sho-at p h =
+      ap (λ (s : Stepped). getD (s .sho) p 0) is-accepted-answer
+      ∙ filled-below stations (run .setup .n) (λ q. mask (run .setup .n) (heard.SHO (heard-in (run .setup .n) bs q) (sent-next run))) 0 p 0
+      (omega (arith, few-enough)) h
+
+  fires-iff-rule : (p v : ℕ) → p < run .setup .n
+      → ((getD (step-of run bs .fires) p false ≡ true) × (getD (step-of run bs .fired) p 0 ≡ v)) ↔ paper.FiresAt (paper-setup run) (round run bs) p v
+  unfolding paper.FiresAt paper.kind round fired-at kind-next setup-of
+  fires-iff-rule p v h =
+      let rule = fired-iff (paper-setup run) (kind-next run) (heard-in (run .setup .n) bs p) v (E-half run (ok .keeps)) in
+      let numbered : ℕ → Type 0 = λ r. rules.Fires (paper-setup run) (rules.kind-of (paper-setup run .algorithm) r) (heard-in (run .setup .n) bs p) v in (
+        λ (f, w). subst numbered (add-one (run .clock)) (rule .0 (there-iff (fired-at run bs p) v .0 (sym (fires-at p h) ∙ f, sym (fired-value p h) ∙ w))),
+        λ f.
+            let told = there-iff (fired-at run bs p) v .1 (rule .1 (subst numbered (sym (add-one (run .clock))) f)) in
+            (fires-at p h ∙ told .0, fired-value p h ∙ told .1),
+      )
+
+  step-follows : Follows run bs (step-of run bs)
+  unfolding round station-after paper.sent paper.kind sent-next kind-next setup-of
+  step-follows =
+      record {
+        stations =
+            λ p h.
+            ap (λ (r : Run). station r p) (ok .next) ∙ station-next run bs p few-enough h
+            ∙ ap (λ (r : ℕ). rules.after (paper-setup run) (run .default) r (station run p) (heard-in (run .setup .n) bs p)) (add-one (run .clock));
+        setup = setup-same run bs ok;
+        default = default-same run bs ok;
+        clock = clock-next run bs ok;
+        sound-again = sound-iff (step-of run bs .run) .1 (keeps-next run bs ok);
+        fires = fires-iff-rule;
+        ho = λ p q hp hq. ap (λ (k : ℕ). k / 2 ^ q % 2) (ho-at p hp) ∙ mask-bit (run .setup .n) (heard.HO (heard-in (run .setup .n) bs p)) q hq;
+        sho =
+            λ p q hp hq.
+            ap (λ (k : ℕ). k / 2 ^ q % 2) (sho-at p hp)
+            ∙ mask-bit (run .setup .n) (heard.SHO (heard-in (run .setup .n) bs p) (sent-next run)) q hq
+            ∙ ap
+            (λ (r : ℕ).
+            one (heard.SHO (heard-in (run .setup .n) bs p) (λ (j : ℕ). rules.sends (rules.kind-of (paper-setup run .algorithm) r) (station run j)) q))
+            (add-one (run .clock));
+      }
+
+-- demands 1 and 2, of the step
+pub demand-2 : Demand2 step-of
+unfolding Wanted
+demand-2 =
+    record {
+      accepts = step-accepts;
+      follows = step-follows;
+      leaves = refused-same;
+      says = says-check;
+    }

@@ -1,0 +1,78 @@
+-- None of the four empty judges meets demand 2: case 9's first round has to be accepted and to move the run, an empty part has to be
+-- refused, and the second round has to decide. The checker computes the checks and the paper's rule on the case's bytes.
+use mathlib.Core.Path.{_≡_, refl, ap, sym, _∙_}
+use mathlib.Core.Bool.{true, false, false≢true, true≢false}
+use mathlib.Core.List.{List, []}
+use Prim.Native.Nat.{ℕ, _<_}
+use native.Mathlib.Omega.{arith}
+use Rattle.paper.specs.Setup.{acceptable}
+use Rattle.paper.specs.Stations.{every, size}
+use Rattle.paper.specs.Heard.{AHO}
+use Rattle.paper.specs.Rules.{Station, Decision, undecided, decided, sends, kind-of, after}
+use Rattle.run.specs.declared.Run.{Run}
+use Rattle.run.specs.declared.Reply.{Reply}
+use Rattle.run.specs.declared.Reply.the-variants.{Accepted, Length}
+use Rattle.run.specs.Number.{number, digits}
+use Rattle.run.specs.Record.{recordBytes, recordAt, recordFrom}
+use Rattle.run.specs.Filled.{tabulate}
+use Rattle.run.specs.Reply.{is-accepted}
+use Rattle.run.specs.Run.{setup-of}
+use Rattle.round.specs.Reading.{heard-in}
+use Rattle.round.specs.Survey.{station, sent-next}
+use Rattle.judge.specs.Step.{check-step, step-of}
+use Rattle.consensus.specs.Demand2.{Judge, round, Demand2}
+use Rattle.consensus.specs.Empty.{refuses-all, says-one, unmoved, first-only, three, all-heard}
+use Rattle.consensus.proofs.Demand2.{demand-2}
+
+first-round : check-step (three 0 5 5 9) (all-heard 5 5 9) ≡ Accepted
+unfolding check-step three all-heard acceptable every tabulate recordBytes digits recordAt recordFrom size AHO heard-in sent-next sends kind-of number
+first-round = refl
+
+second-round : check-step (three 1 5 5 5) (all-heard 5 5 5) ≡ Accepted
+unfolding check-step three all-heard acceptable every tabulate recordBytes digits recordAt recordFrom size AHO heard-in sent-next sends kind-of number
+second-round = refl
+
+no-round : check-step (three 0 5 5 9) [] ≡ Length
+unfolding check-step three acceptable every tabulate
+no-round = refl
+
+-- any judge that meets the demand says what the checks say
+said : (judge : Judge) → Demand2 judge → (run : Run) (bs : List ℕ) → check-step run bs ≡ Accepted → is-accepted (judge run bs .reply) ≡ true
+said judge d run bs e = ap is-accepted (d .says run bs ∙ e)
+
+pub refuses-all-fails : Demand2 refuses-all → ⊥
+refuses-all-fails d = false≢true (said refuses-all d (three 0 5 5 9) (all-heard 5 5 9) first-round)
+
+pub says-one-fails : (r : Reply) (judge : Judge) → Demand2 (says-one r judge) → ⊥
+says-one-fails r judge d =
+    true≢false
+    (ap is-accepted (sym first-round ∙ sym (d .says (three 0 5 5 9) (all-heard 5 5 9)) ∙ d .says (three 0 5 5 9) [] ∙ no-round))
+
+pub unmoved-fails : Demand2 unmoved → ⊥
+unfolding three
+unmoved-fails d =
+    let still = d .follows (three 0 5 5 9) (all-heard 5 5 9) (said unmoved d (three 0 5 5 9) (all-heard 5 5 9) first-round) .clock in omega arith
+
+-- what the second round makes of station 0
+decides : round (three 1 5 5 5) (all-heard 5 5 5) .after 0 .decision ≡ decided 5 2
+unfolding round after three all-heard tabulate recordBytes digits recordAt recordFrom size heard-in kind-of number station setup-of
+decides = refl
+
+-- and what the judge that only raises the clock leaves of it
+undecides : (bs : List ℕ) → is-accepted (first-only (three 1 5 5 5) bs .reply) ≡ true
+    → station (first-only (three 1 5 5 5) bs .run) 0 .decision ≡ undecided
+unfolding three tabulate station
+undecides bs e = rw e
+
+pub first-only-fails : Demand2 first-only → ⊥
+unfolding three
+first-only-fails d =
+    let run = three 1 5 5 5 in
+    let bs = all-heard 5 5 5 in
+    let ok = said first-only d run bs second-round in
+    let told : undecided ≡ decided 5 2 =
+    sym (undecides bs ok) ∙ ap (λ (s : Station). s .decision) (d .follows run bs ok .stations 0 below) ∙ decides in
+    let z : _≡_ {A = ℕ} 0 1 = cc in omega arith
+  where
+    below : 0 < 3
+    below = omega arith

@@ -1,0 +1,59 @@
+-- What becomes of a station depends on its own state and its own row, and set sizes and counts of rounds cannot be invented: each follows
+-- from what the step, the survey and the play are.
+use mathlib.Core.Path.{_≡_, ap, sym, _∙_}
+use mathlib.Core.Bool.{true}
+use mathlib.Core.List.{List}
+use Prim.Native.Nat.{ℕ, suc, _≤_, _<_}
+use native.Mathlib.Omega.{arith}
+use lib.Count.{ones}
+use lib.ListN.{getD}
+use Rattle.paper.specs.Stations.{size}
+use Rattle.paper.specs.Heard as heard
+use Rattle.paper.specs.Rules as rules
+use Rattle.run.specs.declared.Run.{Run}
+use Rattle.run.specs.declared.Reply.the-variants.{Accepted}
+use Rattle.run.specs.Reply.{is-accepted}
+use Rattle.run.specs.Run.{stations}
+use Rattle.run.proofs.Filled.{filled-below}
+use Rattle.round.specs.declared.Survey.{Survey}
+use Rattle.round.specs.Masks.{mask}
+use Rattle.round.specs.Reading.{check-reading, heard-in}
+use Rattle.round.specs.Survey.{station, sent-next, ho-sets, sho-sets, survey-of}
+use Rattle.round.proofs.Masks.{ones-mask}
+use Rattle.judge.specs.declared.Played.{Played}
+use Rattle.judge.specs.Play.{play-of}
+use Rattle.judge.specs.Step.{paper-setup}
+use Rattle.consensus.specs.Demand2.{Judge, round, Demand2}
+
+-- "two accepted rounds from one run that agree in row p give p the same estimate, vote and decision"
+pub own-row : (judge : Judge) → Demand2 judge → (run : Run) (bs bs′ : List ℕ) (p : ℕ) → p < run .setup .n
+    → is-accepted (judge run bs .reply) ≡ true → is-accepted (judge run bs′ .reply) ≡ true
+    → heard-in (run .setup .n) bs p ≡ heard-in (run .setup .n) bs′ p
+    → station (judge run bs .run) p ≡ station (judge run bs′ .run) p
+unfolding round
+own-row judge d run bs bs′ p h e e′ same =
+    d .follows run bs e .stations p h
+    ∙ ap (λ (row : heard.Row). rules.after (paper-setup run) (run .default) (suc (run .clock)) (station run p) row) same
+    ∙ sym (d .follows run bs′ e′ .stations p h)
+
+-- a survey that meets its promise has the sizes of the paper's sets, and no other
+module _ (run : Run) (bs : List ℕ) (ok : check-reading run bs ≡ Accepted) (small : run .setup .n ≤ stations) (p : ℕ) (h : p < run .setup .n) where
+  pub heard-size : (s : Survey) → s ≡ survey-of run bs → ones (getD (s .ho) p 0) ≡ size (run .setup .n) (heard.HO (heard-in (run .setup .n) bs p))
+  unfolding survey-of ho-sets
+  heard-size s e =
+      ap (λ (x : Survey). ones (getD (x .ho) p 0)) e ∙ rw ok
+      (ap ones (filled-below stations (run .setup .n) (λ q. mask (run .setup .n) (heard.HO (heard-in (run .setup .n) bs q))) 0 p 0 (omega arith) h)
+      ∙ ones-mask (run .setup .n) (heard.HO (heard-in (run .setup .n) bs p)))
+
+  pub safe-size : (s : Survey) → s ≡ survey-of run bs
+      → ones (getD (s .sho) p 0) ≡ size (run .setup .n) (heard.SHO (heard-in (run .setup .n) bs p) (sent-next run))
+  unfolding survey-of sho-sets
+  safe-size s e =
+      ap (λ (x : Survey). ones (getD (x .sho) p 0)) e ∙ rw ok
+      (ap ones
+      (filled-below stations (run .setup .n) (λ q. mask (run .setup .n) (heard.SHO (heard-in (run .setup .n) bs q) (sent-next run))) 0 p 0 (omega arith) h)
+      ∙ ones-mask (run .setup .n) (heard.SHO (heard-in (run .setup .n) bs p) (sent-next run)))
+
+-- and a play has the count of the rounds that it accepts
+pub one-count : (run : Run) (bs : List ℕ) (a : Played) → a ≡ play-of run bs → a .rounds ≡ play-of run bs .rounds
+one-count run bs a e = ap (λ (x : Played). x .rounds) e
