@@ -4,3 +4,4 @@ pub mod Demand2
 pub mod Empty
 pub mod Demand3
 pub mod Owned
+pub mod Tape

@@ -3,3 +3,4 @@ pub mod Demand2
 pub mod Empty
 pub mod Offered
 pub mod Demand3
+pub mod Tape
