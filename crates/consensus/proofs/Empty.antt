@@ -1,7 +1,7 @@
 -- None of the four empty judges meets demand 2: case 9's first round has to be accepted and to move the run, an empty part has to be
 -- refused, and the second round has to decide. The checker computes the checks and the paper's rule on the case's bytes.
 use mathlib.Core.Path.{_≡_, refl, ap, sym, _∙_}
-use mathlib.Core.Bool.{true, false, false≢true, true≢false}
+use mathlib.Core.Bool.{true, false, false≢true}
 use mathlib.Core.List.{List, []}
 use Prim.Native.Nat.{ℕ, _<_}
 use native.Mathlib.Omega.{arith}
@@ -11,7 +11,7 @@ use Rattle.paper.specs.Heard.{AHO}
 use Rattle.paper.specs.Rules.{Station, Decision, undecided, decided, sends, kind-of, after}
 use Rattle.run.specs.declared.Run.{Run}
 use Rattle.run.specs.declared.Reply.{Reply}
-use Rattle.run.specs.declared.Reply.the-variants.{Accepted, Length}
+use Rattle.run.specs.declared.Reply.the-variants.{Accepted}
 use Rattle.run.specs.Number.{number, digits}
 use Rattle.run.specs.Record.{recordBytes, recordAt, recordFrom}
 use Rattle.run.specs.Filled.{tabulate}
@@ -19,7 +19,9 @@ use Rattle.run.specs.Reply.{is-accepted}
 use Rattle.run.specs.Run.{setup-of}
 use Rattle.round.specs.Reading.{heard-in}
 use Rattle.round.specs.Survey.{station, sent-next}
+use Rattle.run.proofs.Sound.{sound-iff}
 use Rattle.judge.specs.Step.{check-step, step-of}
+use Rattle.judge.proofs.Steps.{passed}
 use Rattle.consensus.specs.Demand2.{Judge, round, Demand2}
 use Rattle.consensus.specs.Empty.{refuses-all, says-one, unmoved, first-only, three, all-heard}
 use Rattle.consensus.proofs.Demand2.{demand-2}
@@ -32,21 +34,26 @@ second-round : check-step (three 1 5 5 5) (all-heard 5 5 5) ≡ Accepted
 unfolding check-step three all-heard acceptable every tabulate recordBytes digits recordAt recordFrom size AHO heard-in sent-next sends kind-of number
 second-round = refl
 
-no-round : check-step (three 0 5 5 9) [] ≡ Length
-unfolding check-step three acceptable every tabulate
-no-round = refl
-
--- any judge that meets the demand says what the checks say
+-- a round that the step accepts is well formed and keeps the predicates, so any judge that meets the demand has to accept it
 said : (judge : Judge) → Demand2 judge → (run : Run) (bs : List ℕ) → check-step run bs ≡ Accepted → is-accepted (judge run bs .reply) ≡ true
-said judge d run bs e = ap is-accepted (d .says run bs ∙ e)
+said judge d run bs e =
+    let taken : is-accepted (step-of run bs .reply) ≡ true = ap is-accepted (demand-2 .says run bs ∙ e) in
+    let ok = passed run bs taken in
+    let good = sound-iff run .1 (ok .keeps) in
+    d .accepts run bs good (ok .room) .1 (demand-2 .accepts run bs good (ok .room) .0 taken)
 
 pub refuses-all-fails : Demand2 refuses-all → ⊥
 refuses-all-fails d = false≢true (said refuses-all d (three 0 5 5 9) (all-heard 5 5 9) first-round)
 
+-- one reply for all would accept an empty part too, which has not a round's length
 pub says-one-fails : (r : Reply) (judge : Judge) → Demand2 (says-one r judge) → ⊥
+unfolding three
 says-one-fails r judge d =
-    true≢false
-    (ap is-accepted (sym first-round ∙ sym (d .says (three 0 5 5 9) (all-heard 5 5 9)) ∙ d .says (three 0 5 5 9) [] ∙ no-round))
+    let run = three 0 5 5 9 in
+    let ok = passed run (all-heard 5 5 9) (ap is-accepted (demand-2 .says run (all-heard 5 5 9) ∙ first-round)) in
+    let yes-to-all : is-accepted r ≡ true = said (says-one r judge) d run (all-heard 5 5 9) first-round in
+    let long : _≡_ {A = ℕ} 0 72 = d .accepts run [] (sound-iff run .1 (ok .keeps)) (ok .room) .0 yes-to-all .0 .long in
+    omega arith
 
 pub unmoved-fails : Demand2 unmoved → ⊥
 unfolding three
