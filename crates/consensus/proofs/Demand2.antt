@@ -17,26 +17,27 @@ use Rattle.paper.specs.Setup as setup
 use Rattle.paper.specs.Rules as rules
 use Rattle.paper.specs.Run as paper
 use Rattle.paper.proofs.Pins.{fired-iff}
+use Rattle.paper.proofs.Thresholds.{A-not-U}
 use Rattle.run.specs.declared.Run.{Run}
 use Rattle.run.specs.declared.Reply.{Reply}
 use Rattle.run.specs.declared.Reply.the-variants.{Accepted, Length, Altered, Unsafe, Full, Rules}
 use Rattle.run.specs.Keeps.{Keeps}
-use Rattle.run.specs.Reply.{is-accepted, _then_, or-refuse}
+use Rattle.run.specs.Reply.{is-accepted, or-refuse}
 use Rattle.run.specs.Run.{stations, most-rounds, is-U, setup-of, sound}
 use Rattle.run.proofs.Replies.{then-accepted, accepted-then, or-refuse-accepted, accepted-or-refuse}
 use Rattle.run.proofs.Sound.{sound-iff}
 use Rattle.run.proofs.Filled.{filled-below}
-use Rattle.round.specs.Masks.{mask}
+use Rattle.hearing.specs.Masks.{mask}
 use Rattle.round.specs.Reading.{in-turn, votes-next, round-length, check-cells, heard-in}
-use Rattle.round.specs.Survey.{station, kind-next, sent-next, ho-sets, sho-sets}
-use Rattle.round.specs.Tally.{is-there, value-or-0}
-use Rattle.round.proofs.Masks.{mask-bit}
+use Rattle.hearing.specs.Survey.{station, kind-next, sent-next, ho-sets, sho-sets}
+use Rattle.hearing.specs.Tally.{is-there, value-or-0}
+use Rattle.hearing.proofs.Masks.{mask-bit}
 use Rattle.round.proofs.Readings.{cells-accepted}
 use Rattle.round.proofs.Turns.{turn-accepted}
 use Rattle.judge.specs.declared.Stepped.{Stepped}
 use Rattle.judge.specs.Step.{paper-setup, altered, safe, check-altered, check-safe, check-step, accepted, refused, step-of, run-after, station-after, fired-at}
 use Rattle.judge.proofs.Stations.{station-next}
-use Rattle.judge.proofs.Steps.{Passed, passed, step-checked, step-accepted, refused-same, setup-same, default-same, clock-next, keeps-next}
+use Rattle.judge.proofs.Steps.{sets-on, cells-on, length-on, room-on, Passed, passed, step-checked, step-accepted, refused-same, setup-same, default-same, clock-next, keeps-next}
 use Rattle.consensus.specs.Demand2.{round, WellFormed, Follows, Demand2}
 
 -- the step says what its checks say
@@ -89,9 +90,6 @@ module _ (run : Run) (bs : List ℕ) where
   unfolding check-safe paper.P-safe paper.sent paper.kind round setup-of
   safe-iff = go (is-U (run .setup)) refl
     where
-      A-not-U : setup.A ≡ setup.U → ⊥
-      A-not-U e = let z : _≡_ {A = ℕ} 0 1 = cc in omega arith
-
       go : (b : Bool) → is-U (run .setup) ≡ b
           → cond b (in-turn n large-at) Accepted ≡ Accepted ↔ (cond b setup.U setup.A ≡ setup.U → Large (suc (run .clock)))
       go true q = (
@@ -100,29 +98,16 @@ module _ (run : Run) (bs : List ℕ) where
       )
       go false q = (λ e u. absurd (A-not-U u), λ all. refl)
 
-  -- the checks of a step, from each one on
-  abbrev from-sets : Reply
-  from-sets = check-altered run bs then check-safe run bs
-
-  abbrev from-cells : Reply
-  from-cells = check-cells (votes-next run) n bs then from-sets
-
-  abbrev from-length : Reply
-  from-length = or-refuse (eqb (length bs) (round-length n)) Length then from-cells
-
-  abbrev from-room : Reply
-  from-room = or-refuse (ltb (run .clock) most-rounds) Full then from-length
-
   Wanted : Type 0
   Wanted = WellFormed run bs × paper.Safe (paper-setup run) (round run bs)
 
   taken-apart : check-step run bs ≡ Accepted → Wanted
   unfolding check-step Wanted
   taken-apart e =
-      let (first, on-first) = then-accepted (or-refuse (sound run) (Rules 0)) from-room e in
-      let (second, on-second) = then-accepted (or-refuse (ltb (run .clock) most-rounds) Full) from-length on-first in
-      let (third, on-third) = then-accepted (or-refuse (eqb (length bs) (round-length n)) Length) from-cells on-second in
-      let (fourth, on-fourth) = then-accepted (check-cells (votes-next run) n bs) from-sets on-third in
+      let (first, on-first) = then-accepted (or-refuse (sound run) (Rules 0)) (room-on run bs) e in
+      let (second, on-second) = then-accepted (or-refuse (ltb (run .clock) most-rounds) Full) (length-on run bs) on-first in
+      let (third, on-third) = then-accepted (or-refuse (eqb (length bs) (round-length n)) Length) (cells-on run bs) on-second in
+      let (fourth, on-fourth) = then-accepted (check-cells (votes-next run) n bs) (sets-on run bs) on-third in
       let (fifth, sixth) = then-accepted (check-altered run bs) (check-safe run bs) on-fourth in
       let spelled = cells-accepted (votes-next run) n bs .0 fourth in (
         record {
@@ -136,12 +121,12 @@ module _ (run : Run) (bs : List ℕ) where
   put-together : sound run ≡ true → run .clock < most-rounds → Wanted → check-step run bs ≡ Accepted
   unfolding check-step Wanted
   put-together ok room want =
-      accepted-then (or-refuse (sound run) (Rules 0)) from-room (accepted-or-refuse (sound run) (Rules 0) ok)
-      (accepted-then (or-refuse (ltb (run .clock) most-rounds) Full) from-length
+      accepted-then (or-refuse (sound run) (Rules 0)) (room-on run bs) (accepted-or-refuse (sound run) (Rules 0) ok)
+      (accepted-then (or-refuse (ltb (run .clock) most-rounds) Full) (length-on run bs)
       (accepted-or-refuse (ltb (run .clock) most-rounds) Full (lt-ltb (run .clock) most-rounds room))
-      (accepted-then (or-refuse (eqb (length bs) (round-length n)) Length) from-cells
+      (accepted-then (or-refuse (eqb (length bs) (round-length n)) Length) (cells-on run bs)
       (accepted-or-refuse (eqb (length bs) (round-length n)) Length (eq-eqb (length bs) (round-length n) (want .0 .long)))
-      (accepted-then (check-cells (votes-next run) n bs) from-sets
+      (accepted-then (check-cells (votes-next run) n bs) (sets-on run bs)
       (cells-accepted (votes-next run) n bs .1 (λ p q hp hq. (want .0 .fits p q hp hq, want .0 .queries p q hp hq)))
       (accepted-then (check-altered run bs) (check-safe run bs) (few-iff .1 (want .1 .few-altered)) (safe-iff .1 (want .1 .enough-safe))))))
 

@@ -21,7 +21,7 @@ use Rattle.run.specs.Run.{stations, setup-of}
 use Rattle.run.specs.Opening.{setup-in, default-in, starts-in, check-opening, run-from, read-opening}
 use Rattle.run.proofs.Sound.{setup-iff, sound-iff}
 use Rattle.run.proofs.Openings.{opened, opened-sound}
-use Rattle.round.specs.Survey.{station}
+use Rattle.hearing.specs.Survey.{station}
 use Rattle.judge.specs.Step.{paper-setup}
 use Rattle.consensus.specs.Offered.{accepted}
 use Rattle.consensus.specs.Demand3.{Demand3}

@@ -18,7 +18,7 @@ use Rattle.run.specs.Filled.{tabulate}
 use Rattle.run.specs.Reply.{is-accepted}
 use Rattle.run.specs.Run.{setup-of}
 use Rattle.round.specs.Reading.{heard-in}
-use Rattle.round.specs.Survey.{station, sent-next}
+use Rattle.hearing.specs.Survey.{station, sent-next}
 use Rattle.run.proofs.Sound.{sound-iff}
 use Rattle.judge.specs.Step.{check-step, step-of}
 use Rattle.judge.proofs.Steps.{passed}

@@ -21,7 +21,7 @@ use Rattle.run.specs.Keeps.{Keeps}
 use Rattle.run.specs.Reply.{is-accepted}
 use Rattle.run.specs.Run.{stations, is-U, setup-of}
 use Rattle.round.specs.Reading.{heard-in}
-use Rattle.round.specs.Survey.{station, sent-next, kind-next}
+use Rattle.hearing.specs.Survey.{station, sent-next, kind-next}
 use Rattle.judge.specs.Step.{paper-setup, check-step, refused, accepted as taken, step-of, run-after, station-after}
 use Rattle.judge.proofs.Stations.{station-next}
 use Rattle.judge.proofs.Steps.{Passed, passed, refused-same, setup-same, default-same, clock-next, keeps-next}

@@ -1,4 +1,5 @@
--- The demands about the judge, proved.
+-- The demands about the judge, proved, and the bench sheet computed.
+pub mod Sheet
 pub mod Lawful
 pub mod Demand2
 pub mod Empty

@@ -15,11 +15,11 @@ use Rattle.run.specs.declared.Reply.the-variants.{Accepted}
 use Rattle.run.specs.Reply.{is-accepted}
 use Rattle.run.specs.Run.{stations}
 use Rattle.run.proofs.Filled.{filled-below}
-use Rattle.round.specs.declared.Survey.{Survey}
-use Rattle.round.specs.Masks.{mask}
+use Rattle.hearing.specs.declared.Survey.{Survey}
+use Rattle.hearing.specs.Masks.{mask}
 use Rattle.round.specs.Reading.{check-reading, heard-in}
-use Rattle.round.specs.Survey.{station, sent-next, ho-sets, sho-sets, survey-of}
-use Rattle.round.proofs.Masks.{ones-mask}
+use Rattle.hearing.specs.Survey.{station, sent-next, ho-sets, sho-sets, survey-of}
+use Rattle.hearing.proofs.Masks.{ones-mask}
 use Rattle.judge.specs.declared.Played.{Played}
 use Rattle.judge.specs.Play.{play-of}
 use Rattle.judge.specs.Step.{paper-setup}

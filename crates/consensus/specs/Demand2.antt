@@ -16,7 +16,7 @@ use Rattle.run.specs.Reply.{is-accepted}
 use Rattle.run.specs.Run.{most-rounds, sound}
 use Rattle.round.specs.Cells.{cell-fits}
 use Rattle.round.specs.Reading.{votes-next, cell-number, round-length, heard-in}
-use Rattle.round.specs.Survey.{station, sent-next}
+use Rattle.hearing.specs.Survey.{station, sent-next}
 use Rattle.judge.specs.declared.Stepped.{Stepped}
 use Rattle.judge.specs.Step.{paper-setup, check-step}
 

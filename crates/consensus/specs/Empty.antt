@@ -1,19 +1,17 @@
 -- Four judges that answer without judging (document 01, "What the statements owe"), and the round that refutes them: case 9's, taken twice.
-use Prim.Native.Nat.{ℕ, zero, suc, _+_}
+use Prim.Native.Nat.{ℕ, _+_}
 use mathlib.Core.Bool.{false, cond}
-use mathlib.Core.List.{List, _∷_, _++_}
+use mathlib.Core.List.{List, [], _∷_}
 use lib.Dec.{eqb}
 use Rattle.run.specs.declared.Reply.{Reply}
 use Rattle.run.specs.declared.Reply.the-variants.{Length}
 use Rattle.run.specs.declared.Run.{Run}
 use Rattle.run.specs.Reply.{is-accepted}
-use Rattle.run.specs.Written.{written}
 use Rattle.run.specs.Filled.{filled}
 use Rattle.run.specs.Run.{stations}
-use Rattle.round.specs.declared.Cell.the-variants.{Value}
-use Rattle.round.specs.Cells.{cell-record}
 use Rattle.judge.specs.declared.Stepped.{Stepped}
 use Rattle.judge.specs.Step.{refused, step-of}
+use Rattle.consensus.specs.Sheet.{A, bytes-from, bytes, all-hear, values}
 use Rattle.consensus.specs.Demand2.{Judge}
 
 -- one that refuses all
@@ -71,12 +69,13 @@ first-only run bs =
       sho = step-of run bs .sho;
     })
 
--- A(3,2,2,0) with these estimates, after this many rounds, nobody decided; case 9 starts at 5 5 9 and is at 5 5 5 after its first round; and a round in which each of three senders is heard by all
+-- A(3,2,2,0) with these estimates, after this many rounds, nobody decided: case 9 starts at 5 5 9 and is at 5 5 5 after its first round; and
+-- a round in which each of three senders is heard by all
 unfoldable pub three : ℕ → ℕ → ℕ → ℕ → Run
 unfolding filled
 three clock x y z =
     record {
-      setup = record { algorithm = 1; n = 3; t = 2; e = 2; alpha = 0 };
+      setup = A 3 2 2 0;
       default = 0;
       clock = clock;
       estimates = x ∷ y ∷ z ∷ filled 29 0 (λ (i : ℕ). 0) 0;
@@ -87,14 +86,6 @@ three clock x y z =
       rounds = filled stations 0 (λ (i : ℕ). 0) 0;
     }
 
-abbrev heard-from : ℕ → ℕ → ℕ → ℕ → ℕ
-heard-from x y z zero = x
-heard-from x y z (suc zero) = y
-heard-from x y z (suc (suc q)) = z
-
-abbrev row-of-three : ℕ → ℕ → ℕ → ℕ → List ℕ
-row-of-three x y z p = written 3 (λ q. cell-record p q (Value (heard-from x y z q)))
-
 unfoldable pub all-heard : ℕ → ℕ → ℕ → List ℕ
-unfolding written cell-record
-all-heard x y z = row-of-three x y z 0 ++ row-of-three x y z 1 ++ row-of-three x y z 2
+unfolding bytes-from
+all-heard x y z = bytes (all-hear (values (x ∷ y ∷ z ∷ [])))

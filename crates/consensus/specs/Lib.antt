@@ -1,4 +1,5 @@
--- What the demands are stated by.
+-- What the demands are stated by, and the bench sheet.
+pub mod Sheet
 pub mod Demand2
 pub mod Empty
 pub mod Offered

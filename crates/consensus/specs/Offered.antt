@@ -7,7 +7,7 @@ use Rattle.paper.specs.Run.{Turn}
 use Rattle.run.specs.declared.Run.{Run}
 use Rattle.run.specs.Reply.{is-accepted}
 use Rattle.round.specs.Reading.{heard-in}
-use Rattle.round.specs.Survey.{station}
+use Rattle.hearing.specs.Survey.{station}
 use Rattle.judge.specs.Step.{step-of}
 
 -- the round that these bytes spell, taken by this run

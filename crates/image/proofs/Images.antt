@@ -147,7 +147,7 @@ module _ (run : Run) where
       let over : length three ≤ 8 * n = omega arith in
       rw (put-block-back upto-clock rest estimates-from n (estimate-record run) length-clock (omega arith), put-block-back upto-estimates one (votes-from n) n (vote-record run) length-estimates (omega arith), put-block-back upto-votes two (decisions-from n) n (decision-record run) length-votes (omega arith), put-block-back upto-decisions three (rounds-from n) n (round-record run) length-decisions (omega arith), drop-of-length-le three over, append-nil, image-is)
 
-  put-whole : (bs : List ℕ) → length bs ≡ image-length (run .setup .n) → put-image bs run ≡ image run
+  pub put-whole : (bs : List ℕ) → length bs ≡ image-length (run .setup .n) → put-image bs run ≡ image run
   unfolding put-image
   put-whole bs e =
       rw (put-head-is bs (run .setup) (run .default) (omega arith), putAt-back (head-bytes (run .setup) (run .default)) (drop 16 bs) 2 (clock-record (run .clock)) (length-head-bytes (run .setup) (run .default)) (rw length-drop (omega arith)))

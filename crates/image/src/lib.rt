@@ -28,7 +28,6 @@ use run::Setup;
 use run::block;
 use run::block::Shape;
 use run::record;
-use run::rules;
 use run::setups;
 
 const CLOCK: u8 = 8; // kinds of records
@@ -71,14 +70,14 @@ fn rounds_from(n: u8) -> u16
 }
 
 // 8(3 + 4n) bytes.
-fn image_length(n: u8) -> usize
+pub fn image_length(n: u8) -> usize
     ensures { λ r. ⌜ r ≡ image-length n ⌝ }
 {
     Run::RECORD * (ESTIMATES as usize + 4 * n as usize)
 }
 
 // Writes the image's records, as far as the slice has them.
-fn put_image(bytes: &mut [u8], run: Run)
+pub fn put_image(bytes: &mut [u8], run: Run)
     ensures { λ _. ⌜ now (bytes .exit) ≡ put-image (now (bytes .entry)) run ⌝ }
 {
     let s = run.setup;

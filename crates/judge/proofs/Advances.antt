@@ -1,6 +1,6 @@
 -- A loop over the stations: each turn stores the fields of the next station's outcome at its place, so that at the end the arrays are those
--- of the run after the round. What a station's outcome needs is known of every run that keeps the rules.
-use mathlib.Core.Path.{_≡_, sym}
+-- of the run after the round. What a station's outcome needs is known of every run that keeps the rules, and then it is the paper's.
+use mathlib.Core.Path.{_≡_, ap, sym, _∙_}
 use mathlib.Core.Logic.{_⊎_, ⊎-elim}
 use mathlib.Core.Bool.{Bool, true, false}
 use mathlib.Core.List.{List}
@@ -11,26 +11,140 @@ use borrow.Author.Tests.{eqb-true}
 use Rattle.run.specs.declared.Reply.the-variants.{Accepted}
 use Rattle.run.specs.declared.Run.{Run}
 use Rattle.run.specs.declared.Setup.{Setup}
-use Rattle.run.specs.Keeps.{SetupKeeps, StationKeeps}
-use Rattle.run.specs.Run.{stations, is-U, setup-of, station-at}
+use Rattle.run.specs.Keeps.{Keeps, SetupKeeps, StationKeeps}
+use Rattle.run.specs.Run.{stations, is-U, setup-of, station-at, idle}
 use Rattle.run.specs.Filled.{filled}
-use Rattle.run.proofs.Filled.{filled-none, filled-more}
-use Rattle.round.specs.declared.Row.{Row}
-use Rattle.round.specs.Reading.{row-part, read-row, heard-in}
-use Rattle.round.specs.Survey.{station, kind-next, sets-of, row-of, ho-sets, sho-sets}
-use Rattle.round.proofs.Hearing.{kind-votes}
-use Rattle.round.proofs.Surveyed.{row-heard}
+use Rattle.run.proofs.Filled.{filled-none, filled-more, filled-same}
+use Rattle.round.specs.Reading.{votes-next, check-cells, heard-in}
+use Rattle.hearing.specs.Survey.{station, kind-next, sets-of}
+use Rattle.hearing.proofs.Hearing.{kind-votes}
+use Rattle.judge.specs.declared.Counted.{Counted}
 use Rattle.judge.specs.declared.Outcome.{Outcome}
 use Rattle.judge.specs.declared.Stepped.{Stepped}
 use Rattle.judge.specs.Step.{paper-setup, station-after, fired-at, run-after, accepted}
-use Rattle.judge.specs.Outcome.{paper-station, outcome-of, Ready}
-use Rattle.judge.specs.Taking.{Taking}
+use Rattle.judge.specs.Outcome.{paper-station, outcome-of, Ready, told}
+use Rattle.judge.specs.Rows.{no-value, rows-counted}
+use Rattle.judge.specs.Taking.{told-at, advanced}
+use Rattle.judge.proofs.Countings.{counted-ho, counted-sho, counted-tally}
+use Rattle.judge.proofs.Outcomes.{outcome-told}
 use Rattle.judge.proofs.Checks.{ho-at}
 
--- what the round makes of station p
-abbrev outcome-at : Run → List ℕ → ℕ → Outcome
-outcome-at run bs p =
-    outcome-of (paper-setup run) (run .default) (run .clock + 1) (station run p) (heard-in (run .setup .n) bs p)
+-- ---- the loop
+module _ (run : Run) (votes : Bool) (c : Counted) where
+  -- one field of the outcomes of the first k stations
+  abbrev column : {X : Type 0} → (Outcome → X) → ℕ → X → List X
+  column field k d = filled stations k (λ p. field (told-at run votes c p)) d
+
+  -- the run that has these, and what fired
+  unfoldable pub next-to : ℕ → Run
+  unfolding filled told
+  next-to k =
+      record {
+        setup = idle .setup;
+        default = 0;
+        clock = 0;
+        estimates = column (λ o. o .station .estimate) k 0;
+        voted = column (λ o. o .station .voted) k false;
+        votes = column (λ o. o .station .vote) k 0;
+        decided = column (λ o. o .station .decided) k false;
+        decisions = column (λ o. o .station .decision) k 0;
+        rounds = column (λ o. o .station .round) k 0;
+      }
+
+  unfoldable pub fires-to : ℕ → List Bool
+  unfolding filled told
+  fires-to k = column (λ o. o .fires) k false
+
+  unfoldable pub fired-to : ℕ → List ℕ
+  unfolding filled told
+  fired-to k = column (λ o. o .fired) k 0
+
+  column-none : {X : Type 0} (field : Outcome → X) (d : X) → replicate stations d ≡ column field 0 d
+  column-none field d = sym (filled-none stations (λ p. field (told-at run votes c p)) d)
+
+  column-more : {X : Type 0} (field : Outcome → X) (d : X) (k : ℕ) {o : Outcome} → k < stations → o ≡ told-at run votes c k
+      → set (column field k d) k (field o) ≡ column field (k + 1) d
+  column-more field d k l h = rw h (filled-more stations k (λ p. field (told-at run votes c p)) d l)
+
+  pub next-none : idle ≡ next-to 0
+  unfolding idle next-to
+  next-none =
+      rw (
+        ← column-none (λ o. o .station .estimate) 0,
+        ← column-none (λ o. o .station .voted) false,
+        ← column-none (λ o. o .station .vote) 0,
+        ← column-none (λ o. o .station .decided) false,
+        ← column-none (λ o. o .station .decision) 0,
+        ← column-none (λ o. o .station .round) 0,
+      )
+
+  pub fires-none : replicate stations false ≡ fires-to 0
+  unfolding fires-to
+  fires-none = column-none (λ o. o .fires) false
+
+  pub fired-none : replicate stations 0 ≡ fired-to 0
+  unfolding fired-to
+  fired-none = column-none (λ o. o .fired) 0
+
+  module _ {k : ℕ} {o : Outcome} (l : k < stations) (h : o ≡ told-at run votes c k) where
+    pub next-more : {a : Run} → a ≡ next-to k
+        → _≡_ {A = Run}
+        (record {
+          setup = a .setup;
+          default = a .default;
+          clock = a .clock;
+          estimates = set (a .estimates) k (o .station .estimate);
+          voted = set (a .voted) k (o .station .voted);
+          votes = set (a .votes) k (o .station .vote);
+          decided = set (a .decided) k (o .station .decided);
+          decisions = set (a .decisions) k (o .station .decision);
+          rounds = set (a .rounds) k (o .station .round);
+        })
+        (next-to (k + 1))
+    unfolding next-to
+    next-more e =
+        rw (
+          e,
+          column-more (λ o. o .station .estimate) 0 k l h,
+          column-more (λ o. o .station .voted) false k l h,
+          column-more (λ o. o .station .vote) 0 k l h,
+          column-more (λ o. o .station .decided) false k l h,
+          column-more (λ o. o .station .decision) 0 k l h,
+          column-more (λ o. o .station .round) 0 k l h,
+        )
+
+    pub fires-more : {a : List Bool} → a ≡ fires-to k → set a k (o .fires) ≡ fires-to (k + 1)
+    unfolding fires-to
+    fires-more e = rw e (column-more (λ o. o .fires) false k l h)
+
+    pub fired-more : {a : List ℕ} → a ≡ fired-to k → set a k (o .fired) ≡ fired-to (k + 1)
+    unfolding fired-to
+    fired-more e = rw e (column-more (λ o. o .fired) 0 k l h)
+
+  pub advanced-done : {k : ℕ} {a : Run} {g : List Bool} {h : List ℕ} → a ≡ next-to k → g ≡ fires-to k → h ≡ fired-to k → k ≡ run .setup .n
+      → _≡_ {A = Stepped}
+      (record {
+        reply = Accepted;
+        run =
+            record {
+              setup = run .setup;
+              default = run .default;
+              clock = run .clock + 1;
+              estimates = a .estimates;
+              voted = a .voted;
+              votes = a .votes;
+              decided = a .decided;
+              decisions = a .decisions;
+              rounds = a .rounds;
+            };
+        fires = g;
+        fired = h;
+        ho = c .ho;
+        sho = c .sho;
+      })
+      (advanced run votes c)
+  unfolding advanced next-to fires-to fired-to
+  advanced-done e f g d = rw (e, f, g, d)
 
 -- ---- one station
 -- 2E is at least n, and under U so is 2T
@@ -40,118 +154,59 @@ E-half s k = ⊎-elim (λ a. omega (arith, k .T-under-A a, k .T-below, k .E-belo
 T-half : (s : Setup) → SetupKeeps s → is-U s ≡ true → s .n ≤ 2 * s .t
 T-half s k u = omega (arith, k .T-under-U (eqb-true (s .algorithm) 2 u))
 
-module _ (run : Run) (bs : List ℕ) (votes : Bool) (ho sho : List ℕ) (t : Taking run bs votes ho sho) (p : ℕ) (below : p < run .setup .n)
-    (r : Row) (part : List ℕ) (read : r ≡ read-row votes (run .setup .n) p part) (same : part ≡ row-part (run .setup .n) bs p) where
+module _ (run : Run) (bs : List ℕ) (keeps : Keeps run) (good : check-cells (votes-next run) (run .setup .n) bs ≡ Accepted) where
   abbrev n : ℕ
   n = run .setup .n
 
   few : n ≤ stations
-  few = t .keeps .setup .n-to
+  few = keeps .setup .n-to
 
-  row-is : row-of (r .cells) ≡ heard-in n bs p
-  row-is = rw (read, same) (row-heard votes n bs few (t .records) p below)
+  abbrev counted : Counted
+  counted = rows-counted (votes-next run) run bs
 
-  -- a row that was read is one whose station's outcome can be told
-  pub ready : Ready (run .setup) (run .clock + 1) votes (station-at run p) (row-of (r .cells)) (getD ho p 0)
+  -- what the round makes of station p
+  abbrev outcome-at : ℕ → Outcome
+  outcome-at p = outcome-of (paper-setup run) (run .default) (run .clock + 1) (station run p) (heard-in n bs p)
+
+  -- a station of a run that keeps the rules is one whose outcome can be told
+  ready : (p : ℕ) → p < n → Ready (run .setup) (run .clock + 1) (votes-next run) (station-at run p) (heard-in n bs p) (getD (counted .ho) p 0)
   unfolding kind-next sets-of
-  ready =
-      let was : StationKeeps (run .setup) (run .clock) (station-at run p) = t .keeps .below p below in
+  ready p below =
+      let was : StationKeeps (run .setup) (run .clock) (station-at run p) = keeps .below p below in
       record {
-        kind = rw (t .flag) (kind-votes run);
+        kind = kind-votes run;
         few = few;
-        E-half = E-half (run .setup) (t .keeps .setup);
-        T-half = T-half (run .setup) (t .keeps .setup);
-        heard = rw (t .heard, row-is) (ho-at run bs few p below);
+        E-half = E-half (run .setup) (keeps .setup);
+        T-half = T-half (run .setup) (keeps .setup);
+        heard = rw (counted-ho run bs few good) (ho-at run bs few p below);
         beside-no-vote = was .beside-no-vote;
         beside-undecided = was .beside-undecided;
         no-round = was .undecided;
       }
 
-  -- and it is that of the round
-  pub outcome-is : {o : Outcome} → o ≡ outcome-of (setup-of (run .setup)) (run .default) (run .clock + 1) (paper-station (station-at run p)) (row-of (r .cells))
-      → o ≡ outcome-at run bs p
-  unfolding station
-  outcome-is e = rw row-is at e
+  told-is : (p : ℕ) → p < n → told-at run (votes-next run) counted p ≡ outcome-at p
+  unfolding station setup-of
+  told-is p below =
+      rw (counted-tally run bs few good p below)
+      (outcome-told (run .setup) (run .default) (run .clock + 1) (votes-next run) (station-at run p) (heard-in n bs p) _ (ready p below))
 
--- ---- the arrays
-module _ (run : Run) (bs : List ℕ) where
-  -- one field of the outcomes of the first k stations
-  abbrev column : {X : Type 0} → (Outcome → X) → ℕ → X → List X
-  column field k d = filled stations k (λ p. field (outcome-at run bs p)) d
+  column-is : {X : Type 0} (field : Outcome → X) (d : X)
+      → filled stations n (λ p. field (told-at run (votes-next run) counted p)) d ≡ filled stations n (λ p. field (outcome-at p)) d
+  column-is field d = filled-same stations n _ _ d (λ p below. ap field (told-is p below))
 
-  column-none : {X : Type 0} (field : Outcome → X) (d : X) → replicate stations d ≡ column field 0 d
-  column-none field d = sym (filled-none stations (λ p. field (outcome-at run bs p)) d)
-
-  column-more : {X : Type 0} (field : Outcome → X) (d : X) (k : ℕ) {a : List X} {o : Outcome} → k < stations → a ≡ column field k d
-      → o ≡ outcome-at run bs k → set a k (field o) ≡ column field (k + 1) d
-  column-more field d k l e h = rw (e, h) (filled-more stations k (λ p. field (outcome-at run bs p)) d l)
-
-  -- the outcomes of the first k stations, as arrays
-  pub record Advanced (k : ℕ) (estimates : List ℕ) (voted : List Bool) (votes : List ℕ) (decided : List Bool) (decisions rounds : List ℕ)
-      (fires : List Bool) (fired : List ℕ) : Type 0 where
-    pub estimate : estimates ≡ column (λ o. o .station .estimate) k 0
-    pub flag : voted ≡ column (λ o. o .station .voted) k false
-    pub vote : votes ≡ column (λ o. o .station .vote) k 0
-    pub settled : decided ≡ column (λ o. o .station .decided) k false
-    pub decision : decisions ≡ column (λ o. o .station .decision) k 0
-    pub round : rounds ≡ column (λ o. o .station .round) k 0
-    pub firing : fires ≡ column (λ o. o .fires) k false
-    pub value : fired ≡ column (λ o. o .fired) k 0
-
-  pub advanced-none : Advanced 0 (replicate stations 0) (replicate stations false) (replicate stations 0) (replicate stations false)
-      (replicate stations 0) (replicate stations 0) (replicate stations false) (replicate stations 0)
-  advanced-none =
-      record {
-        estimate = column-none (λ o. o .station .estimate) 0;
-        flag = column-none (λ o. o .station .voted) false;
-        vote = column-none (λ o. o .station .vote) 0;
-        settled = column-none (λ o. o .station .decided) false;
-        decision = column-none (λ o. o .station .decision) 0;
-        round = column-none (λ o. o .station .round) 0;
-        firing = column-none (λ o. o .fires) false;
-        value = column-none (λ o. o .fired) 0;
-      }
-
-  pub advanced-more : {k : ℕ} {a : List ℕ} {b : List Bool} {c : List ℕ} {d : List Bool} {e f : List ℕ} {g : List Bool} {h : List ℕ} {o : Outcome}
-      → Advanced k a b c d e f g h → k < stations → o ≡ outcome-at run bs k
-      → Advanced (k + 1) (set a k (o .station .estimate)) (set b k (o .station .voted)) (set c k (o .station .vote))
-      (set d k (o .station .decided)) (set e k (o .station .decision)) (set f k (o .station .round)) (set g k (o .fires)) (set h k (o .fired))
-  advanced-more {k} s l q =
-      record {
-        estimate = column-more (λ o. o .station .estimate) 0 k l (s .estimate) q;
-        flag = column-more (λ o. o .station .voted) false k l (s .flag) q;
-        vote = column-more (λ o. o .station .vote) 0 k l (s .vote) q;
-        settled = column-more (λ o. o .station .decided) false k l (s .settled) q;
-        decision = column-more (λ o. o .station .decision) 0 k l (s .decision) q;
-        round = column-more (λ o. o .station .round) 0 k l (s .round) q;
-        firing = column-more (λ o. o .fires) false k l (s .firing) q;
-        value = column-more (λ o. o .fired) 0 k l (s .value) q;
-      }
-
-  -- at the end they are those of the run after the round
-  pub advanced-done : {k : ℕ} {a : List ℕ} {b : List Bool} {c : List ℕ} {d : List Bool} {e f : List ℕ} {g : List Bool} {h ho sho : List ℕ}
-      → Advanced k a b c d e f g h → k ≡ run .setup .n → ho ≡ ho-sets (run .setup .n) bs → sho ≡ sho-sets run (run .setup .n) bs
-      → _≡_ {A = Stepped}
-      (record {
-        reply = Accepted;
-        run =
-            record {
-              setup = run .setup;
-              default = run .default;
-              clock = run .clock + 1;
-              estimates = a;
-              voted = b;
-              votes = c;
-              decided = d;
-              decisions = e;
-              rounds = f;
-            };
-        fires = g;
-        fired = h;
-        ho = ho;
-        sho = sho;
-      })
-      (accepted run bs)
-  unfolding accepted run-after station-after fired-at kind-next setup-of outcome-of
-  advanced-done s e x y =
-      rw (s .estimate, s .flag, s .vote, s .settled, s .decision, s .round, s .firing, s .value, x, y, e)
+  -- so the run after the round is the paper's
+  pub advanced-is : advanced run (votes-next run) counted ≡ accepted run bs
+  unfolding advanced accepted run-after station-after fired-at kind-next setup-of outcome-of
+  advanced-is =
+      rw (
+        column-is (λ o. o .station .estimate) 0,
+        column-is (λ o. o .station .voted) false,
+        column-is (λ o. o .station .vote) 0,
+        column-is (λ o. o .station .decided) false,
+        column-is (λ o. o .station .decision) 0,
+        column-is (λ o. o .station .round) 0,
+        column-is (λ o. o .fires) false,
+        column-is (λ o. o .fired) 0,
+        counted-ho run bs few good,
+        counted-sho run bs few good,
+      )

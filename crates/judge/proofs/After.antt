@@ -14,10 +14,10 @@ use Rattle.paper.specs.Setup as setup
 use Rattle.paper.specs.Rules as rules
 use Rattle.run.specs.declared.Setup.{Setup}
 use Rattle.run.specs.declared.Run.{Run}
-use Rattle.run.specs.declared.rules.Station.{Station}
+use Rattle.run.specs.declared.Station.{Station}
 use Rattle.run.specs.Keeps.{Keeps, SetupKeeps, StationKeeps, Empty}
 use Rattle.run.specs.Run.{stations, is-U, algorithm-of, setup-of, station-at}
-use Rattle.round.specs.Survey.{station}
+use Rattle.hearing.specs.Survey.{station}
 use Rattle.round.specs.Reading.{heard-in}
 use Rattle.judge.specs.Step.{has-value, value-in, is-decided, decision-in, round-in, entries, paper-setup, station-after, entries-after, run-after}
 use Rattle.judge.proofs.Stations.{entries-next, empty-next}

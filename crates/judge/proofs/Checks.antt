@@ -21,15 +21,14 @@ use Rattle.run.specs.Run.{stations, most-rounds, is-U, sound}
 use Rattle.run.proofs.Filled.{filled-below}
 use Rattle.run.proofs.Replies.{then-on, then-stop, then-accepted, or-refuse-accepted}
 use Rattle.run.proofs.Sound.{sound-iff}
-use Rattle.round.specs.Masks.{mask}
+use Rattle.hearing.specs.Masks.{mask}
 use Rattle.round.specs.Reading.{in-turn, votes-next, round-length, check-cells, heard-in}
-use Rattle.round.specs.Survey.{sent-next, sets-of, ho-sets, sho-sets, rows-surveyed}
+use Rattle.hearing.specs.Survey.{sent-next, sets-of, ho-sets, sho-sets}
 use Rattle.round.proofs.Turns.{turn-returns, turn-on, turn-same}
-use Rattle.round.proofs.Hearing.{safe-told, altered-told}
-use Rattle.round.proofs.Surveyed.{surveyed-ho, surveyed-sho}
+use Rattle.hearing.proofs.Hearing.{safe-told, altered-told}
 use Rattle.judge.specs.declared.Stepped.{Stepped}
 use Rattle.judge.specs.Step.{paper-setup, altered, safe, check-altered, check-safe, check-step, accepted, refused, step-of}
-use Rattle.judge.specs.Taking.{check-bytes, few-in, enough-in, check-sets, Taking}
+use Rattle.judge.specs.Taking.{check-room, few-in, enough-in, check-sets}
 
 -- ---- a test asked in turn, with the refusal at its place
 module _ (test : ℕ → Bool) (r : ℕ → Reply) (refuses : (i : ℕ) → is-accepted (r i) ≡ false) where
@@ -111,69 +110,68 @@ module _ (run : Run) (bs : List ℕ) where
   abbrev keeps : Reply
   keeps = or-refuse (sound run) (Rules 0)
 
-  step-parts : check-step run bs ≡ (check-bytes run bs then sets-on)
-  unfolding check-step check-bytes
+  step-parts : check-step run bs ≡ (check-room run bs then cells then sets-on)
+  unfolding check-step check-room
   step-parts =
       sym
-      (then-then keeps (room then long then cells) sets-on
-      ∙ ap (λ (r : Reply). keeps then r) (then-then room (long then cells) sets-on ∙ ap (λ (r : Reply). room then r) (then-then long cells sets-on)))
+      (then-then keeps (room then long) (cells then sets-on)
+      ∙ ap (λ (r : Reply). keeps then r) (then-then room long (cells then sets-on)))
 
-  -- a refusal by the bytes is the step's
-  pub bytes-refused : {reply : Reply} → reply ≡ check-bytes run bs → is-accepted (check-bytes run bs) ≡ false → refused reply run ≡ step-of run bs
+  -- a refusal for want of room is the step's
+  pub room-refused : {reply : Reply} → reply ≡ check-room run bs → is-accepted (check-room run bs) ≡ false → refused reply run ≡ step-of run bs
   unfolding step-of
-  bytes-refused e f =
-      let stopped : check-step run bs ≡ check-bytes run bs = step-parts ∙ then-stop (check-bytes run bs) sets-on f in
+  room-refused e f =
+      let stopped : check-step run bs ≡ check-room run bs = step-parts ∙ then-stop (check-room run bs) (cells then sets-on) f in
       rw (stopped, f, e)
 
-  -- and so is the first check of the bytes that fails
-  pub bytes-unsound : sound run ≡ false → Rules 0 ≡ check-bytes run bs
-  unfolding check-bytes
-  bytes-unsound e = rw e
+  -- and so is the first check that fails
+  pub room-unsound : sound run ≡ false → Rules 0 ≡ check-room run bs
+  unfolding check-room
+  room-unsound e = rw e
 
-  pub bytes-full : sound run ≡ true → most-rounds ≤ run .clock → Full ≡ check-bytes run bs
-  unfolding check-bytes
-  bytes-full e l = rw (e, le-ltb (run .clock) most-rounds l)
+  pub room-full : sound run ≡ true → most-rounds ≤ run .clock → Full ≡ check-room run bs
+  unfolding check-room
+  room-full e l = rw (e, le-ltb (run .clock) most-rounds l)
 
-  pub bytes-length : sound run ≡ true → run .clock < most-rounds → (length bs ≡ round-length (run .setup .n) → ⊥) → Length ≡ check-bytes run bs
-  unfolding check-bytes
-  bytes-length e l h = rw (e, lt-ltb (run .clock) most-rounds l, ne-eqb _ _ h)
+  pub room-length : sound run ≡ true → run .clock < most-rounds → (length bs ≡ round-length (run .setup .n) → ⊥) → Length ≡ check-room run bs
+  unfolding check-room
+  room-length e l h = rw (e, lt-ltb (run .clock) most-rounds l, ne-eqb _ _ h)
 
-  pub bytes-cells : sound run ≡ true → run .clock < most-rounds → length bs ≡ round-length (run .setup .n) → cells ≡ check-bytes run bs
-  unfolding check-bytes
-  bytes-cells e l h = rw (e, lt-ltb (run .clock) most-rounds l, eq-eqb _ _ h)
+  pub room-there : sound run ≡ true → run .clock < most-rounds → length bs ≡ round-length (run .setup .n) → Accepted ≡ check-room run bs
+  unfolding check-room
+  room-there e l h = rw (e, lt-ltb (run .clock) most-rounds l, eq-eqb _ _ h)
 
-  -- what bytes that are in order tell, and the sets that are then found
-  pub taking : check-bytes run bs ≡ Accepted
-      → Taking run bs (votes-next run) (rows-surveyed (votes-next run) run bs .ho) (rows-surveyed (votes-next run) run bs .sho)
-  unfolding check-bytes
-  taking e =
-      let (first, after-first) = then-accepted keeps (room then long then cells) e in
-      let (second, after-second) = then-accepted room (long then cells) after-first in
-      let (third, fourth) = then-accepted long cells after-second in
-      let rules : Keeps run = sound-iff run .0 (or-refuse-accepted (sound run) (Rules 0) refl first) in
-      record {
-        keeps = rules;
-        room = ltb-true (run .clock) most-rounds (or-refuse-accepted (ltb (run .clock) most-rounds) Full refl second);
-        flag = refl;
-        records = fourth;
-        heard = surveyed-ho run bs (rules .setup .n-to) fourth;
-        safely = surveyed-sho run bs (rules .setup .n-to) fourth;
-      }
+  module _ (there : check-room run bs ≡ Accepted) where
+    -- a run with room keeps the rules and is not full
+    pub room-keeps : Keeps run × (run .clock < 4096)
+    unfolding check-room
+    room-keeps =
+        let (first, after-first) = then-accepted keeps (room then long) there in
+        let (second, third) = then-accepted room long after-first in (
+          sound-iff run .0 (or-refuse-accepted (sound run) (Rules 0) refl first),
+          ltb-true (run .clock) most-rounds (or-refuse-accepted (ltb (run .clock) most-rounds) Full refl second),
+        )
 
-  -- then 6 and 7 are the step's checks that are left
-  module _ (votes : Bool) (ho sho : List ℕ) (t : Taking run bs votes ho sho) (good : check-bytes run bs ≡ Accepted) where
-    sets-step : check-sets (run .setup) ho sho ≡ check-step run bs
-    sets-step =
-        rw (t .heard, t .safely, step-parts, good) (sets-told run bs (t .keeps .setup .n-to))
-
-    pub sets-refused : {reply : Reply} → reply ≡ check-sets (run .setup) ho sho → is-accepted (check-sets (run .setup) ho sho) ≡ false
-        → refused reply run ≡ step-of run bs
+    -- a record that is refused gives the step's refusal
+    pub cells-refused : {reply : Reply} → reply ≡ cells → is-accepted cells ≡ false → refused reply run ≡ step-of run bs
     unfolding step-of
-    sets-refused e f = rw (← sets-step, f, e)
+    cells-refused e f =
+        let stopped : check-step run bs ≡ cells = step-parts ∙ rw there (then-stop cells sets-on f) in
+        rw (stopped, f, e)
 
-    pub sets-accepted : check-sets (run .setup) ho sho ≡ Accepted → accepted run bs ≡ step-of run bs
-    unfolding step-of
-    sets-accepted e = rw (← sets-step, e)
+    -- then 6 and 7 are the step's checks that are left
+    module _ (good : cells ≡ Accepted) (ho sho : List ℕ) (heard : ho ≡ ho-sets (run .setup .n) bs) (safely : sho ≡ sho-sets run (run .setup .n) bs) where
+      sets-step : check-sets (run .setup) ho sho ≡ check-step run bs
+      sets-step = rw (heard, safely, step-parts, there, good) (sets-told run bs (room-keeps .0 .setup .n-to))
+
+      pub sets-refused : {reply : Reply} → reply ≡ check-sets (run .setup) ho sho → is-accepted (check-sets (run .setup) ho sho) ≡ false
+          → refused reply run ≡ step-of run bs
+      unfolding step-of
+      sets-refused e f = rw (← sets-step, f, e)
+
+      pub sets-accepted : check-sets (run .setup) ho sho ≡ Accepted → accepted run bs ≡ step-of run bs
+      unfolding step-of
+      sets-accepted e = rw (← sets-step, e)
 
 -- a step is the one that its contract names, and no other
 pub step-unique : (run : Run) (bs : List ℕ) (r r′ : Stepped) → r ≡ step-of run bs → r′ ≡ step-of run bs → r ≡ r′

@@ -1,6 +1,7 @@
 -- Laws about the definitions of specs/.
 pub mod Stations
 pub mod Outcomes
+pub mod Countings
 pub mod Checks
 pub mod Advances
 pub mod Cuts

@@ -11,15 +11,15 @@ use Rattle.paper.specs.Heard as heard
 use Rattle.paper.specs.Setup as setup
 use Rattle.paper.specs.Rules as rules
 use Rattle.run.specs.declared.Setup.{Setup}
-use Rattle.run.specs.declared.rules.Station.{Station}
+use Rattle.run.specs.declared.Station.{Station}
 use Rattle.run.specs.Run.{is-U, setup-of}
-use Rattle.round.specs.declared.Tally.{Tally}
-use Rattle.round.specs.Tally.{is-there, value-or-0, tally}
-use Rattle.round.proofs.Masks.{ones-mask}
-use Rattle.round.proofs.Tallies.{most-told, over-T-told, over-E-told, vouched-told}
+use Rattle.hearing.specs.declared.Tally.{Tally}
+use Rattle.hearing.specs.Tally.{is-there, value-or-0, tally}
+use Rattle.hearing.proofs.Masks.{ones-mask}
+use Rattle.hearing.proofs.Tallies.{most-told, over-T-told, over-E-told, vouched-told}
 use Rattle.judge.specs.declared.Outcome.{Outcome}
 use Rattle.judge.specs.Step.{has-value, value-in, is-decided, decision-in, round-in}
-use Rattle.judge.specs.Outcome.{paper-station, outcome-of, kind-by, Ready, moves, next-estimate, casts, with-vote, rule-fires, with-decision}
+use Rattle.judge.specs.Outcome.{paper-station, outcome-of, kind-by, Ready, moves, next-estimate, casts, with-vote, rule-fires, with-decision, told}
 
 -- an answer that is there where a test passes
 if-there : (b : Bool) (v d : ℕ) → cond b v d ≡ rules.or-else (cond b (some v) none) d
@@ -159,24 +159,8 @@ module _ (s : Setup) (default number : ℕ) (votes : Bool) (x : Station) (row : 
       go false false = over-E
 
   -- so the two outcomes are the same
-  pub outcome-told : _≡_ {A = Outcome}
-      (record {
-        station =
-            with-decision number (rule-fires s votes t) (t .value)
-            (with-vote s votes t
-            (record {
-              estimate = next-estimate s default votes (x .estimate) ho t;
-              voted = x .voted;
-              vote = x .vote;
-              decided = x .decided;
-              decision = x .decision;
-              round = x .round;
-            }));
-        fires = rule-fires s votes t;
-        fired = cond (rule-fires s votes t) (t .value) 0;
-      })
-      (outcome-of S default number p row)
-  unfolding outcome-of rules.after with-decision with-vote
+  pub outcome-told : told s default number votes x ho t ≡ outcome-of S default number p row
+  unfolding told outcome-of rules.after with-decision with-vote
   outcome-told =
       rw (
         kind,

@@ -9,12 +9,12 @@ use lib.ListN.{getD}
 use Rattle.paper.specs.Heard as heard
 use Rattle.paper.specs.Rules as rules
 use Rattle.run.specs.declared.Run.{Run}
-use Rattle.run.specs.declared.rules.Station.{Station}
+use Rattle.run.specs.declared.Station.{Station}
 use Rattle.run.specs.Keeps.{Empty}
 use Rattle.run.specs.Run.{stations, station-at}
 use Rattle.run.specs.Filled.{filled}
 use Rattle.run.proofs.Filled.{filled-below, filled-above}
-use Rattle.round.specs.Survey.{station}
+use Rattle.hearing.specs.Survey.{station}
 use Rattle.judge.specs.Outcome.{paper-station}
 use Rattle.judge.specs.Step.{has-value, value-in, is-decided, decision-in, round-in, entries, station-after, entries-after, run-after}
 

@@ -21,7 +21,7 @@ use Rattle.run.specs.Run.{most-rounds, is-U, setup-of, sound}
 use Rattle.run.proofs.Replies.{accepted-is, then-accepted, or-refuse-accepted}
 use Rattle.run.proofs.Sound.{sound-iff}
 use Rattle.round.specs.Reading.{in-turn, votes-next, round-length, check-cells}
-use Rattle.round.specs.Survey.{station, sent-next, kind-next}
+use Rattle.hearing.specs.Survey.{station, sent-next, kind-next}
 use Rattle.judge.specs.Step.{paper-setup, altered, safe, check-altered, check-safe, check-step, accepted, refused, step-of, run-after, station-after}
 use Rattle.judge.proofs.Stations.{station-next}
 use Rattle.judge.proofs.After.{run-keeps}
@@ -44,16 +44,16 @@ abbrev safe-at : Run → List ℕ → ℕ → Reply
 safe-at run bs p = or-refuse (setup.passes-bound (paper-setup run) (safe run bs p)) (Unsafe p)
 
 -- the checks of a step from each one on
-abbrev sets-on : Run → List ℕ → Reply
+abbrev pub sets-on : Run → List ℕ → Reply
 sets-on run bs = check-altered run bs then check-safe run bs
 
-abbrev cells-on : Run → List ℕ → Reply
+abbrev pub cells-on : Run → List ℕ → Reply
 cells-on run bs = check-cells (votes-next run) (run .setup .n) bs then sets-on run bs
 
-abbrev length-on : Run → List ℕ → Reply
+abbrev pub length-on : Run → List ℕ → Reply
 length-on run bs = or-refuse (eqb (length bs) (round-length (run .setup .n))) Length then cells-on run bs
 
-abbrev room-on : Run → List ℕ → Reply
+abbrev pub room-on : Run → List ℕ → Reply
 room-on run bs = or-refuse (ltb (run .clock) most-rounds) Full then length-on run bs
 
 taken-if : (b : Bool) (r s : Reply) → b ≡ true → cond b r s ≡ Accepted → r ≡ Accepted

@@ -9,11 +9,11 @@ use Rattle.paper.specs.Heard as heard
 use Rattle.paper.specs.Setup as setup
 use Rattle.paper.specs.Rules as rules
 use Rattle.run.specs.declared.Setup.{Setup}
-use Rattle.run.specs.declared.rules.Station.{Station}
+use Rattle.run.specs.declared.Station.{Station}
 use Rattle.run.specs.Run.{is-U, algorithm-of, setup-of}
-use Rattle.round.specs.declared.Tally.{Tally}
-use Rattle.round.specs.Masks.{mask}
-use Rattle.round.specs.Tally.{is-there, value-or-0}
+use Rattle.hearing.specs.declared.Tally.{Tally}
+use Rattle.hearing.specs.Masks.{mask}
+use Rattle.hearing.specs.Tally.{is-there, value-or-0}
 use Rattle.judge.specs.declared.Outcome.{Outcome}
 use Rattle.judge.specs.Step.{entries}
 
@@ -96,4 +96,24 @@ with-decision number fires v x =
       decided = x .decided || fires;
       decision = cond (x .decided) (x .decision) (cond fires v (x .decision));
       round = cond (x .decided) (x .round) (cond fires number (x .round));
+    }
+
+-- all of it: what a station then holds, and what fired at it
+unfoldable pub told : Setup → ℕ → ℕ → Bool → Station → ℕ → Tally → Outcome
+unfolding next-estimate with-vote rule-fires with-decision
+told s default number votes x ho t =
+    record {
+      station =
+          with-decision number (rule-fires s votes t) (t .value)
+          (with-vote s votes t
+          (record {
+            estimate = next-estimate s default votes (x .estimate) ho t;
+            voted = x .voted;
+            vote = x .vote;
+            decided = x .decided;
+            decision = x .decision;
+            round = x .round;
+          }));
+      fires = rule-fires s votes t;
+      fired = cond (rule-fires s votes t) (t .value) 0;
     }

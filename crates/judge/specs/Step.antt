@@ -12,13 +12,13 @@ use Rattle.paper.specs.Rules as rules
 use Rattle.run.specs.declared.Reply.{Reply}
 use Rattle.run.specs.declared.Reply.the-variants.{Accepted, Length, Altered, Unsafe, Full, Rules}
 use Rattle.run.specs.declared.Run.{Run}
-use Rattle.run.specs.declared.rules.Station.{Station}
+use Rattle.run.specs.declared.Station.{Station}
 use Rattle.run.specs.Reply.{is-accepted, _then_, or-refuse}
 use Rattle.run.specs.Run.{stations, most-rounds, is-U, setup-of, sound}
 use Rattle.run.specs.Filled.{filled}
 use Rattle.round.specs.Reading.{in-turn, votes-next, round-length, check-cells, heard-in}
-use Rattle.round.specs.Survey.{station, kind-next, sent-next, ho-sets, sho-sets}
-use Rattle.round.specs.Tally.{is-there, value-or-0}
+use Rattle.hearing.specs.Survey.{station, kind-next, sent-next, ho-sets, sho-sets}
+use Rattle.hearing.specs.Tally.{is-there, value-or-0}
 use Rattle.judge.specs.declared.Outcome.{Outcome}
 use Rattle.judge.specs.declared.Stepped.{Stepped}
 

@@ -1,8 +1,7 @@
--- The checks of a round in two parts, as the code makes them: those of its bytes, then 6 and 7 asked of the masks of HO and SHO. That they are
--- the checks of a step is proved in proofs/Taken.antt.
-use Prim.Native.Nat.{ℕ, _-_, _<_}
-use mathlib.Core.Path.{_≡_}
-use mathlib.Core.Bool.{Bool, cond}
+-- A round taken as the code does it: room for it, its records, then 6 and 7 asked of the masks of HO and SHO, and each station's outcome from
+-- the count of its row. That this is the step is proved in proofs/Checks.antt and proofs/Advances.antt.
+use Prim.Native.Nat.{ℕ, _+_, _-_}
+use mathlib.Core.Bool.{Bool, false, cond}
 use mathlib.Core.List.{List}
 use lib.Count.{ones}
 use lib.Dec.{eqb, leb, ltb}
@@ -12,18 +11,22 @@ use Rattle.run.specs.declared.Reply.{Reply}
 use Rattle.run.specs.declared.Reply.the-variants.{Accepted, Length, Altered, Unsafe, Full, Rules}
 use Rattle.run.specs.declared.Run.{Run}
 use Rattle.run.specs.declared.Setup.{Setup}
-use Rattle.run.specs.Keeps.{Keeps}
 use Rattle.run.specs.Reply.{_then_, or-refuse}
-use Rattle.run.specs.Run.{most-rounds, is-U, setup-of, sound}
-use Rattle.round.specs.Reading.{in-turn, votes-next, round-length, check-cells}
-use Rattle.round.specs.Survey.{ho-sets, sho-sets}
+use Rattle.run.specs.Run.{stations, most-rounds, is-U, setup-of, station-at, sound}
+use Rattle.run.specs.Filled.{filled}
+use Rattle.round.specs.Reading.{in-turn, round-length}
+use Rattle.judge.specs.declared.Counted.{Counted}
+use Rattle.judge.specs.declared.Outcome.{Outcome}
+use Rattle.judge.specs.declared.Stepped.{Stepped}
+use Rattle.judge.specs.Outcome.{told}
+use Rattle.judge.specs.Rows.{no-value}
 
--- 10, 8, 1, then the records
-unfoldable pub check-bytes : Run → List ℕ → Reply
-unfolding sound check-cells
-check-bytes run bs =
+-- 10, 8, 1
+unfoldable pub check-room : Run → List ℕ → Reply
+unfolding sound
+check-room run bs =
     or-refuse (sound run) (Rules 0) then or-refuse (ltb (run .clock) most-rounds) Full
-    then or-refuse (eqb (length bs) (round-length (run .setup .n))) Length then check-cells (votes-next run) (run .setup .n) bs
+    then or-refuse (eqb (length bs) (round-length (run .setup .n))) Length
 
 -- 6, of the masks of HO and SHO
 abbrev pub few-at : Setup → List ℕ → List ℕ → ℕ → Bool
@@ -45,12 +48,31 @@ unfoldable pub check-sets : Setup → List ℕ → List ℕ → Reply
 unfolding few-in enough-in
 check-sets s ho sho = few-in s ho sho then cond (is-U s) (enough-in s sho) Accepted
 
--- what is known of a round once its bytes are in order: the run keeps the rules and has room, the flag is that of its clock, the records are
--- in order, and these are its sets
-pub record Taking (run : Run) (bs : List ℕ) (votes : Bool) (ho sho : List ℕ) : Type 0 where
-  pub keeps : Keeps run
-  pub room : run .clock < 4096
-  pub flag : votes ≡ votes-next run
-  pub records : check-cells votes (run .setup .n) bs ≡ Accepted
-  pub heard : ho ≡ ho-sets (run .setup .n) bs
-  pub safely : sho ≡ sho-sets run (run .setup .n) bs
+-- what the round makes of station p, told from its row's count
+abbrev pub told-at : Run → Bool → Counted → ℕ → Outcome
+told-at run votes c p =
+    told (run .setup) (run .default) (run .clock + 1) votes (station-at run p) (getD (c .ho) p 0) (getD (c .tallies) p no-value)
+
+-- the run after the round
+unfoldable pub advanced : Run → Bool → Counted → Stepped
+unfolding filled told
+advanced run votes c =
+    record {
+      reply = Accepted;
+      run =
+          record {
+            setup = run .setup;
+            default = run .default;
+            clock = run .clock + 1;
+            estimates = filled stations (run .setup .n) (λ p. told-at run votes c p .station .estimate) 0;
+            voted = filled stations (run .setup .n) (λ p. told-at run votes c p .station .voted) false;
+            votes = filled stations (run .setup .n) (λ p. told-at run votes c p .station .vote) 0;
+            decided = filled stations (run .setup .n) (λ p. told-at run votes c p .station .decided) false;
+            decisions = filled stations (run .setup .n) (λ p. told-at run votes c p .station .decision) 0;
+            rounds = filled stations (run .setup .n) (λ p. told-at run votes c p .station .round) 0;
+          };
+      fires = filled stations (run .setup .n) (λ p. told-at run votes c p .fires) false;
+      fired = filled stations (run .setup .n) (λ p. told-at run votes c p .fired) 0;
+      ho = c .ho;
+      sho = c .sho;
+    }

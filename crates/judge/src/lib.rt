@@ -1,10 +1,20 @@
 // The judge: one round taken, and a tape played (document 01, "What the judge replies").
+pub mod rows; // the rows of a round: its records, sets and counts
 pub mod step; // one round taken
 
 ghost use mathlib.Core.Path.{_≡_};
+use hearing::Tally;
 use run::Reply;
 use run::Run;
-use run::rules::Station;
+use run::Station;
+
+// What the rows of a round tell: each receiver's HO, SHO and count; none where a record is refused.
+pub struct Counted {
+    pub reply: Reply,
+    pub ho: [u32; Run::STATIONS],
+    pub sho: [u32; Run::STATIONS],
+    pub tallies: [Tally; Run::STATIONS],
+}
 
 // What a round makes of one station: what it then holds, and the value for which the decide rule fired, if it did.
 pub struct Outcome {

@@ -1,29 +1,26 @@
 // One round taken: its checks in order, and what becomes of each station (document 01, "What the judge replies", "Algorithm A", "Algorithm U").
 ghost use mathlib.Core.Path.{_≡_};
 ghost use mathlib.Core.Bool.{cond};
-ghost use Prim.Native.Nat.{_+_, _≤_};
-ghost use Rattle.run.specs.Run.{stations, setup-of};
-ghost use Rattle.round.specs.Survey.{row-of};
+ghost use Prim.Native.Nat.{_≤_, _<_};
+ghost use Rattle.run.specs.Run.{stations};
 ghost use Rattle.run.specs.declared.Reply.the-variants.{Accepted};
 ghost use Rattle.round.specs.Reading.{votes-next};
-ghost use Rattle.judge.specs.Step.{accepted, refused, step-of};
-ghost use Rattle.judge.specs.Taking.{check-bytes, few-in, enough-in, check-sets, Taking};
-ghost use Rattle.judge.specs.Outcome.{paper-station, outcome-of, Ready, moves, next-estimate, casts, with-vote, deciding, rule-fires, with-decision};
+ghost use Rattle.judge.specs.Step.{refused, step-of};
+ghost use Rattle.judge.specs.Taking.{check-room, few-in, enough-in, check-sets, advanced};
+ghost use Rattle.judge.specs.Outcome.{moves, next-estimate, casts, with-vote, deciding, rule-fires, with-decision, told};
+use super::Counted;
 use super::Outcome;
 use super::Stepped;
-use round::Sets;
-use round::Slot;
-use round::Tally;
-use round::count;
-use round::guard;
-use round::heard;
+use super::rows;
+use hearing::Sets;
+use hearing::Tally;
+use hearing::guard;
+use hearing::heard;
 use round::read;
-use round::surveys;
 use run::Reply;
 use run::Run;
 use run::Setup;
-use run::rules;
-use run::rules::Station;
+use run::Station;
 use run::setups;
 
 // Whether A's rule moves the estimate: enough were heard, and a value was received.
@@ -111,20 +108,18 @@ fn value_if(there: bool, v: u32) -> u32
     if there { v } else { 0 }
 }
 
-// What round `number` makes of one station with this row, and what fires at it.
+// What round `number` makes of one station that heard these, with this count of its row, and what fires at it.
 fn outcome(
     setup: Setup,
     default: u32,
     number: u32,
     votes: bool,
     s: Station,
-    cells: [Slot; Run::STATIONS],
     ho: u32,
+    t: Tally,
 ) -> Outcome
-    requires { ⌜ Ready setup number votes s (row-of cells) ho ⌝ }
-    ensures { λ r. ⌜ r ≡ outcome-of (setup-of setup) default number (paper-station s) (row-of cells) ⌝ }
+    ensures { λ r. ⌜ r ≡ told setup default number votes s ho t ⌝ }
 {
-    let t = count::tally(cells, setup.n, setup.alpha as u32 + 1);
     let fires = rule_fires(setup, votes, t);
     let mut next = s;
     next.estimate = next_estimate(setup, default, votes, s.estimate, ho, t);
@@ -187,9 +182,9 @@ fn check_sets(setup: Setup, ho: [u32; Run::STATIONS], sho: [u32; Run::STATIONS])
     Reply::Accepted
 }
 
-// 10, 8, 1, then record by record 2 before 5.
-fn check_bytes(run: Run, round: &[u8]) -> Reply
-    ensures { λ r. ⌜ r ≡ check-bytes run (now (round .entry)) ⌝ }
+// 10, 8, 1.
+fn check_room(run: Run, round: &[u8]) -> Reply
+    ensures { λ r. ⌜ r ≡ check-room run (now (round .entry)) ⌝ }
 {
     if !rules::sound(run) {
         return Reply::Rules(0);
@@ -198,11 +193,10 @@ fn check_bytes(run: Run, round: &[u8]) -> Reply
         return Reply::Full;
     }
     let setup = run.setup;
-    let n = setup.n;
-    if round.len() != read::round_length(n) {
+    if round.len() != read::round_length(setup.n) {
         return Reply::Length;
     }
-    read::check_cells(round, rules::may_vote(setup, run.clock), n)
+    Reply::Accepted
 }
 
 // What a refused round answers: the run handed in, no firing and empty sets.
@@ -219,34 +213,19 @@ fn refused(reply: Reply, run: Run) -> Stepped
     }
 }
 
-// The run after a round that passed every check: each station's outcome, from its row and what the run holds of it.
-fn advance(
-    run: Run,
-    round: &[u8],
-    voting: bool,
-    ho: [u32; Run::STATIONS],
-    sho: [u32; Run::STATIONS],
-) -> Stepped
-    requires { ⌜ Taking run (now round) voting ho sho ⌝ }
-    ensures { λ r. ⌜ r ≡ accepted run (now (round .entry)) ⌝ }
+// The run after a round that passed every check: each station's outcome, from what the run holds of it and what its row tells.
+fn advance(run: Run, voting: bool, counted: Counted) -> Stepped
+    requires { ⌜ (run .setup .n ≤ stations) × (run .clock < 4096) ⌝ }
+    ensures { λ r. ⌜ r ≡ advanced run voting counted ⌝ }
 {
     let setup = run.setup;
-    let n = setup.n;
+    let last = setup.n as usize;
     let number = run.clock + 1;
-    let last = n as usize;
-    let mut estimates: [u32; Run::STATIONS] = [0; Run::STATIONS];
-    let mut voted = [false; Run::STATIONS];
-    let mut votes: [u32; Run::STATIONS] = [0; Run::STATIONS];
-    let mut decided = [false; Run::STATIONS];
-    let mut decisions: [u32; Run::STATIONS] = [0; Run::STATIONS];
-    let mut rounds: [u32; Run::STATIONS] = [0; Run::STATIONS];
+    let mut next = Run::idle();
     let mut fires = [false; Run::STATIONS];
     let mut fired: [u32; Run::STATIONS] = [0; Run::STATIONS];
     let mut p: usize = 0;
     while p < last {
-        let receiver = p as u8;
-        let row = read::read_row(read::row_part(round, n, receiver), voting, receiver, n);
-        let cells = row.cells;
         let s = Station {
             estimate: run.estimates[p],
             voted: run.voted[p],
@@ -255,28 +234,24 @@ fn advance(
             decision: run.decisions[p],
             round: run.rounds[p],
         };
-        let o = outcome(setup, run.default, number, voting, s, cells, ho[p]);
-        estimates[p] = o.station.estimate;
-        voted[p] = o.station.voted;
-        votes[p] = o.station.vote;
-        decided[p] = o.station.decided;
-        decisions[p] = o.station.decision;
-        rounds[p] = o.station.round;
+        let ho = counted.ho[p];
+        let tally = counted.tallies[p];
+        let o = outcome(setup, run.default, number, voting, s, ho, tally);
+        next.estimates[p] = o.station.estimate;
+        next.voted[p] = o.station.voted;
+        next.votes[p] = o.station.vote;
+        next.decided[p] = o.station.decided;
+        next.decisions[p] = o.station.decision;
+        next.rounds[p] = o.station.round;
         fires[p] = o.fires;
         fired[p] = o.fired;
         p += 1;
     }
-    let next = Run {
-        setup,
-        default: run.default,
-        clock: number,
-        estimates,
-        voted,
-        votes,
-        decided,
-        decisions,
-        rounds,
-    };
+    next.setup = setup;
+    next.default = run.default;
+    next.clock = number;
+    let ho = counted.ho;
+    let sho = counted.sho;
     Stepped {
         reply: Reply::Accepted,
         run: next,
@@ -287,27 +262,31 @@ fn advance(
     }
 }
 
-// A round whose bytes are in order: its sets, 6 and 7 asked of them, and the next run.
+// A round that there is room for: its records, then 6 and 7 asked of its sets, and the next run.
 fn take(run: Run, round: &[u8], voting: bool) -> Stepped
-    requires { ⌜ (check-bytes run (now round) ≡ Accepted) × (voting ≡ votes-next run) ⌝ }
+    requires { ⌜ (check-room run (now round) ≡ Accepted) × (voting ≡ votes-next run) ⌝ }
     ensures { λ r. ⌜ r ≡ step-of run (now (round .entry)) ⌝ }
 {
-    let survey = surveys::survey_rows(run, round, voting);
-    let ho = survey.ho;
-    let sho = survey.sho;
     let setup = run.setup;
+    let counted = rows::count_rows(run, round, voting);
+    let records = counted.reply;
+    if records.number() != 0 {
+        return refused(records, run);
+    }
+    let ho = counted.ho;
+    let sho = counted.sho;
     let reply = check_sets(setup, ho, sho);
     if reply.number() != 0 {
         return refused(reply, run);
     }
-    advance(run, round, voting, ho, sho)
+    advance(run, voting, counted)
 }
 
 // Takes a round: the next run and what fired, or the run handed in with the first refusal.
 pub fn step(run: Run, round: &[u8]) -> Stepped
     ensures { λ r. ⌜ r ≡ step-of run (now (round .entry)) ⌝ }
 {
-    let reply = check_bytes(run, round);
+    let reply = check_room(run, round);
     if reply.number() != 0 {
         return refused(reply, run);
     }

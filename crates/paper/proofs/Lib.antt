@@ -5,7 +5,6 @@ pub mod Thresholds
 pub mod Smallest
 pub mod MostOften
 pub mod Pins
-pub mod Table
 pub mod Tight
 pub mod Receives
 pub mod Rounds

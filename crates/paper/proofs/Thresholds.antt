@@ -8,6 +8,10 @@ use borrow.Author.Tests.{ltb-true, leb-true, lt-ltb, le-leb}
 use Rattle.paper.proofs.Counting.{both}
 use Rattle.paper.specs.Setup.{Algorithm, A, U, Setup, passesT, passesE, vouched, E-below-n, T-below-n, T-enough, E-enough, acceptable-for, acceptable, safe-bound, passes-bound}
 
+-- the two algorithms are apart
+pub A-not-U : A ≡ U → ⊥
+A-not-U e = let z : _≡_ {A = ℕ} 0 1 = cc in omega arith
+
 -- the inequalities of Theorem 1 and of Theorem 2, as orders of numbers
 pub record MeetsA (S : Setup) : Type 0 where
   pub E-below : S .E < S .n

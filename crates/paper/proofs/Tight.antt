@@ -1,19 +1,21 @@
 -- The lock of A is no stronger than it is stated: a run that keeps the predicates, decides, and then has just E + 1 - alpha stations with
--- the value decided, which is not more than E. The round is a row of the table, and the checker computes it.
+-- the value decided, which is not more than E. The checker computes the round.
 use mathlib.Core.Path.{_≡_, refl}
-use mathlib.Core.Bool.{true}
+use mathlib.Core.Bool.{true, cond}
 use mathlib.Core.List.{[], _∷_}
 use Prim.Native.Nat.{ℕ, _+_, _≤_, _<_}
 use native.Mathlib.Nat.{le-refl}
 use native.Mathlib.Omega.{arith}
-use lib.ListN.{getD}
-use Rattle.paper.specs.Stations.{size}
+use lib.Dec.{eqb, leb}
+use borrow.Author.Tests.{leb-true}
+use Rattle.paper.specs.Stations.{size, every}
+use Rattle.paper.specs.Heard.{val, lost, heard, Matrix, AHO}
 use Rattle.paper.specs.Setup.{A, Setup, acceptable, passesE}
 use Rattle.paper.specs.Rules.{times, after}
-use Rattle.paper.specs.Run.{opened, Turn, Run, Safe, FiresAt}
+use Rattle.paper.specs.Run.{opened, Turn, Run, sent, P-alpha, Safe, FiresAt}
 use Rattle.paper.specs.Safety.{holders}
-use Rattle.paper.specs.Cases.{setup, matrix, keeps, tight-starts, tight-rows}
-use Rattle.paper.proofs.Table.{keeps-iff}
+use Rattle.paper.proofs.Counting.{every-at}
+use Rattle.paper.proofs.Thresholds.{A-not-U}
 
 -- a run of one round in which v is decided and few hold it
 pub record Meets-bound (S : Setup) : Type 0 where
@@ -30,22 +32,31 @@ pub record Meets-bound (S : Setup) : Type 0 where
   pub not-more : size (S .n) (holders (round .after) v) ≤ S .E
 
 abbrev the-setup : Setup
-the-setup = setup A 7 6 6 1
+the-setup = record { algorithm = A; n = 7; T = 6; E = 6; alpha = 1 }
 
+-- six stations start with 4 and station 6 with 9
 abbrev the-starts : ℕ → ℕ
-the-starts p = getD tight-starts p 0
+the-starts p = cond (eqb p 6) 9 4
+
+-- station 6 loses all, and station 0 hears 4 for its 9
+abbrev the-cells : Matrix
+the-cells p q = cond (eqb p 6) lost (heard (val (cond (eqb p 0) 4 (the-starts q))))
 
 the-round : Turn
 the-round =
     record {
       number = 1;
       before = opened the-starts;
-      heard = matrix tight-rows;
-      after = λ p. after the-setup 0 1 (opened the-starts p) (matrix tight-rows p);
+      heard = the-cells;
+      after = λ p. after the-setup 0 1 (opened the-starts p) (the-cells p);
     }
 
+few-altered : P-alpha the-setup the-round
+unfolding P-alpha the-round opened sent size every AHO
+few-altered p h = leb-true _ 1 (every-at 7 (λ q. leb (size 7 (AHO (the-cells q) (sent the-setup the-round))) 1) refl p h)
+
 pub lock-is-tight : Meets-bound the-setup
-unfolding acceptable keeps Run the-round FiresAt passesE opened size holders times after
+unfolding acceptable Run the-round FiresAt passesE opened size holders times after
 lock-is-tight =
     record {
       allowed = refl;
@@ -54,7 +65,7 @@ lock-is-tight =
       station = 0;
       v = 4;
       is-run = (record { counted = refl; from = λ p h. refl; by-rule = λ p h. refl }, tt);
-      safe = keeps-iff the-setup the-round .0 refl;
+      safe = record { few-altered = few-altered; enough-safe = λ is-U. absurd (A-not-U is-U) };
       below = omega arith;
       fires = record { rule = refl; enough = refl };
       just = refl;

@@ -5,4 +5,3 @@ pub mod Setup
 pub mod Rules
 pub mod Run
 pub mod Safety
-pub mod Cases

@@ -11,7 +11,6 @@ use round::read;
 use run::Reply;
 use run::Run;
 use run::Setup;
-use run::rules;
 use run::setups;
 
 // The rounds that are handed on at a time: each one takes a frame, and so a long tape takes no more stack than these.

@@ -15,7 +15,6 @@ use run::Reply;
 use run::Run;
 use run::record;
 use run::record::Record;
-use run::rules;
 
 // The kinds of a cell's record.
 pub const VALUE: u8 = 4;
@@ -32,14 +31,14 @@ fn is_cell(kind: u8, number: u32) -> bool
 }
 
 // Whether the record is one of receiver p and sender q.
-pub fn cell_fits(p: u8, q: u8, r: Record) -> bool
+fn cell_fits(p: u8, q: u8, r: Record) -> bool
     ensures { λ b. ⌜ b ≡ cell-fits p q r ⌝ }
 {
     is_cell(r.kind, r.number) && (r.first == p && (r.second == q && r.third == 0))
 }
 
 // The cell that a record spells.
-pub fn cell_in(r: Record) -> Cell
+fn cell_in(r: Record) -> Cell
     ensures { λ c. ⌜ c ≡ cell-in r ⌝ }
 {
     if r.kind == VALUE {
@@ -52,7 +51,7 @@ pub fn cell_in(r: Record) -> Cell
 }
 
 // Refuses record number `at`, of receiver p and sender q, if it is no such record, or a "?" outside a vote round.
-pub fn check_cell(votes: bool, at: u32, p: u8, q: u8, r: Record) -> Reply
+fn check_cell(votes: bool, at: u32, p: u8, q: u8, r: Record) -> Reply
     ensures { λ reply. ⌜ reply ≡ check-cell votes at p q r ⌝ }
 {
     if !cell_fits(p, q, r) {
@@ -113,7 +112,7 @@ pub fn read_row(row: &[u8], votes: bool, p: u8, n: u8) -> Row
 }
 
 // Reads the rows of a round of n stations in order, and refuses the first record at fault.
-pub fn check_cells(round: &[u8], votes: bool, n: u8) -> Reply
+fn check_cells(round: &[u8], votes: bool, n: u8) -> Reply
     ensures { λ r. ⌜ r ≡ check-cells votes n (now (round .entry)) ⌝ }
 {
     let mut p: u8 = 0;

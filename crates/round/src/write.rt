@@ -15,10 +15,9 @@ use run::Reply;
 use run::Run;
 use run::record;
 use run::record::Record;
-use run::rules;
 
 // The record that spells what receiver p has of sender q.
-pub fn cell_record(p: u8, q: u8, cell: Cell) -> Record
+fn cell_record(p: u8, q: u8, cell: Cell) -> Record
     ensures { λ r. ⌜ r ≡ cell-record p q cell ⌝ }
 {
     match cell {
@@ -127,7 +126,7 @@ fn put_cells(out: &mut [u8], matrix: Matrix, n: u8)
 }
 
 // Refuses what can't be written as a round of the run: 10, 5, 2, 9.
-pub fn check_writing(run: Run, matrix: Matrix, room: usize) -> Reply
+fn check_writing(run: Run, matrix: Matrix, room: usize) -> Reply
     ensures { λ r. ⌜ r ≡ check-writing run matrix room ⌝ }
 {
     if !rules::sound(run) {

@@ -14,7 +14,7 @@ use Rattle.paper.proofs.Counting.{both, every-at, every-is}
 use Rattle.paper.proofs.Thresholds.{meets-A, meets-U}
 use Rattle.run.specs.declared.Setup.{Setup}
 use Rattle.run.specs.declared.Run.{Run}
-use Rattle.run.specs.declared.rules.Station.{Station}
+use Rattle.run.specs.declared.Station.{Station}
 use Rattle.run.specs.Keeps.{SetupKeeps, StationKeeps, Empty, Keeps}
 use Rattle.run.specs.Run.{
   stations,

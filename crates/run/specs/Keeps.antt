@@ -6,7 +6,7 @@ use mathlib.Core.Bool.{true, false}
 use Prim.Native.Nat.{ℕ, _+_, _-_, _*_, _%_, _<_, _≤_}
 use Rattle.run.specs.declared.Setup.{Setup}
 use Rattle.run.specs.declared.Run.{Run}
-use Rattle.run.specs.declared.rules.Station.{Station}
+use Rattle.run.specs.declared.Station.{Station}
 use Rattle.run.specs.Run.{stations, most-rounds, station-at}
 
 -- "setup acceptable": the algorithm is A (1) or U (2), and n, T, E and alpha meet the inequalities of its section

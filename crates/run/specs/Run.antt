@@ -7,7 +7,7 @@ use Rattle.paper.specs.Setup as paper
 use Rattle.paper.specs.Stations.{every}
 use Rattle.run.specs.declared.Setup.{Setup}
 use Rattle.run.specs.declared.Run.{Run}
-use Rattle.run.specs.declared.rules.Station.{Station}
+use Rattle.run.specs.declared.Station.{Station}
 use Rattle.run.specs.declared.setups.Algorithm.{Algorithm}
 use Rattle.run.specs.declared.setups.Algorithm.the-variants.{A, U}
 

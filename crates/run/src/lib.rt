@@ -1,8 +1,7 @@
-// The run: its type and constants, its rules, and openings read and written (document 01, "Run and image", "Tape").
+// The run: its type and constants, and openings read and written (document 01, "Run and image", "Tape").
 pub mod record; // records of 8 bytes
 pub mod block; // a record for each station
 pub mod setups; // setups, and the two records that openings and images begin with
-pub mod rules; // the rules of a run
 pub mod opening; // openings, read and written
 
 ghost use mathlib.Core.Path.{_≡_};
@@ -60,6 +59,16 @@ impl Run {
             rounds: [0; Run::STATIONS],
         }
     }
+}
+
+// What a run holds of one station.
+pub struct Station {
+    pub estimate: u32,
+    pub voted: bool,
+    pub vote: u32,
+    pub decided: bool,
+    pub decision: u32,
+    pub round: u32,
 }
 
 // What the judge replies, with the place where the number has one.

@@ -15,7 +15,7 @@ pub struct Record {
 
 impl Record {
     // All zero.
-    pub fn blank() -> Record
+    fn blank() -> Record
         ensures { λ r. ⌜ r ≡ blank ⌝ }
     {
         Record {

@@ -40,7 +40,7 @@ pub fn is_u(s: Setup) -> bool
 }
 
 // The algorithm that the byte names; a byte that names none is taken for A, and no setup with one is in range.
-pub fn algorithm_of(s: Setup) -> Algorithm
+fn algorithm_of(s: Setup) -> Algorithm
     ensures { λ r. ⌜ paper-algorithm r ≡ algorithm-of s ⌝ }
 {
     if is_u(s) { Algorithm::U } else { Algorithm::A }
@@ -61,21 +61,21 @@ fn spread(s: Setup) -> u32
 }
 
 // n > E.
-pub fn e_below_n(s: Setup) -> bool
+fn e_below_n(s: Setup) -> bool
     ensures { λ r. ⌜ r ≡ paper.E-below-n (setup-of s) ⌝ }
 {
     s.e < s.n
 }
 
 // n > T.
-pub fn t_below_n(s: Setup) -> bool
+fn t_below_n(s: Setup) -> bool
     ensures { λ r. ⌜ r ≡ paper.T-below-n (setup-of s) ⌝ }
 {
     s.t < s.n
 }
 
 // T >= 2(n + 2 alpha - E) under A, with 2E added on both sides so that nothing is subtracted; 2T >= n + 2 alpha under U.
-pub fn t_enough(s: Setup) -> bool
+fn t_enough(s: Setup) -> bool
     ensures { λ r. ⌜ r ≡ paper.T-enough (algorithm-of s) (setup-of s) ⌝ }
 {
     match algorithm_of(s) {
@@ -85,7 +85,7 @@ pub fn t_enough(s: Setup) -> bool
 }
 
 // 2E >= n + 2 alpha.
-pub fn e_enough(s: Setup) -> bool
+fn e_enough(s: Setup) -> bool
     ensures { λ r. ⌜ r ≡ paper.E-enough (setup-of s) ⌝ }
 {
     spread(s) <= 2 * wide(s.e)
@@ -119,7 +119,7 @@ pub fn default_fits(s: Setup, d: u32) -> bool
 }
 
 // What a setup is refused with: its range comes before its inequalities.
-pub fn check_setup(s: Setup) -> Reply
+pub(crate) fn check_setup(s: Setup) -> Reply
     ensures { λ r. ⌜ r ≡ check-setup s ⌝ }
 {
     if !in_range(s) {
@@ -132,7 +132,7 @@ pub fn check_setup(s: Setup) -> Reply
 }
 
 // The setup's record: E and alpha stand in the lowest two bytes of its number.
-pub fn setup_record(s: Setup) -> Record
+fn setup_record(s: Setup) -> Record
     ensures { λ r. ⌜ r ≡ setup-record s ⌝ }
 {
     Record {
@@ -145,14 +145,14 @@ pub fn setup_record(s: Setup) -> Record
 }
 
 // Whether the record is a setup's: bytes 6 and 7 are zero.
-pub fn is_setup(r: Record) -> bool
+fn is_setup(r: Record) -> bool
     ensures { λ b. ⌜ b ≡ is-setup r ⌝ }
 {
     r.kind == SETUP && r.number < TWO_BYTES
 }
 
 // The setup that a record holds, whatever its kind.
-pub fn read_setup(r: Record) -> Setup
+fn read_setup(r: Record) -> Setup
     ensures { λ s. ⌜ s ≡ read-setup r ⌝ }
 {
     Setup {

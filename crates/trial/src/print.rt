@@ -4,7 +4,6 @@ use run::Opened;
 use run::Reply;
 use run::Run;
 use run::Setup;
-use run::rules;
 
 const A: u8 = 1; // the algorithm's byte
 

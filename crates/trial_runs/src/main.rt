@@ -1,7 +1,6 @@
 // Runs the trials of openings, images and runs: for each frame of the input, one call, and a line that says what it answered.
 use run::Run;
 use run::Setup;
-use run::rules;
 use trial::print;
 use trial::take;
 

@@ -1,6 +1,5 @@
 // Runs the trials of steps and of parts played: for each frame of the input, one call, and a line that says what it answered.
 use run::Run;
-use run::rules;
 use trial::print;
 use trial::take;
 

@@ -1,41 +1,37 @@
--- `judge::step::advance` meets its contract: each turn stores the next station's outcome, which is the rules' since its row is the round's.
-use mathlib.Core.Path.{_≡_}
+-- `judge::step::advance` meets its contract: each turn stores the next station's outcome at its place.
+use mathlib.Core.Path.{_≡_, _∙_}
 use Prim.Native.Nat.{_-_, _≤_}
 use native.Mathlib.Omega.{arith}
 use borrow.Author.Needs.{needs}
-use Rattle.judge.proofs.Advances.{ready, outcome-is, Advanced, advanced-none, advanced-more, advanced-done}
+use Rattle.judge.proofs.Advances.{next-to, fires-to, fired-to, next-none, fires-none, fired-none, next-more, fires-more, fired-more, advanced-done}
 use Rattle.judge.proofs.step.advance.Statement.{statement}
 use Rattle.judge.proofs.step.advance.Tie as tie
 
 abbrev Inv-loop : tie.InvT-loop
-Inv-loop round voting x run y setup n number last a₀ b₀ c₀ d₀ e₀ f₀ g₀ h₀ p₀ a b c d e f g h p =
-    (p ≤ last) × Advanced run round p a b c d e f g h
+Inv-loop voting run counted setup last number next₀ fires₀ fired₀ p₀ next fires fired p =
+    (p ≤ last) × (next ≡ next-to run voting counted p) × (fires ≡ fires-to run voting counted p) × (fired ≡ fired-to run voting counted p)
 
 abbrev μ-loop : tie.MeasureT-loop
-μ-loop round voting x run y setup n number last a₀ b₀ c₀ d₀ e₀ f₀ g₀ h₀ p₀ a b c d e f g h p = last - p
-
-outcome-requires : tie.Need-outcome-requires Inv-loop μ-loop
-outcome-requires c κs =
-    let row = c .before .before .before .before .before .before .before in
-    let head = row .before .before .before in
-    ready _ _ _ _ _ (head .before .before .before .pre) (head .loop .p) (omega arith) (row .read-row .result) _ (row .read-row .ensures)
-    (row .before .row-part .ensures)
+μ-loop voting run counted setup last number next₀ fires₀ fired₀ p₀ next fires fired p = last - p
 
 loop-again : tie.Need-loop-again Inv-loop μ-loop
 loop-again c =
-    let row = c .before .before .before .before .before .before .before .before in
-    let head = row .before .before .before in (
-      omega arith,
-      advanced-more _ _ (head .loop .inv .1) (omega arith)
-          (outcome-is _ _ _ _ _ (head .before .before .before .pre) (head .loop .p) (omega arith) (row .read-row .result) _ (row .read-row .ensures)
-          (row .before .row-part .ensures) (c .outcome .ensures)),
+    let inside = c .before .before .before .before .before .before .before .before .before in
+    let start = inside .before .before .before .before .before in
+    let inv = inside .before .loop .inv in
+    let here = c .outcome .ensures in (
+      omega (arith, inside .loop-test .taken),
+      next-more _ _ _ (omega (arith, inside .loop-test .taken, start .pre .0)) here (inv .1),
+      fires-more _ _ _ (omega (arith, inside .loop-test .taken, start .pre .0)) here (inv .2),
+      fired-more _ _ _ (omega (arith, inside .loop-test .taken, start .pre .0)) here (inv .3),
     )
 
 returns : tie.Need-returns Inv-loop μ-loop
 returns c =
-    let start = c .before .before .before .before in
-    let done : c .before .loop .p ≡ start .args .t1 .setup .n = omega arith in
-    advanced-done _ _ (c .before .loop .inv .1) done (start .pre .heard) (start .pre .safely)
+    let loop = c .before .before .before .loop in
+    let start = c .before .before .before .before .before .before .before in
+    let done : loop .p ≡ start .args .t1 .setup .n = omega arith in
+    advanced-done _ _ _ (loop .inv .1) (loop .inv .2) (loop .inv .3) done
 
 pub advance-spec : {M : Type 1} → statement M
 advance-spec =
@@ -43,25 +39,25 @@ advance-spec =
     (tie.spec
     Inv-loop
     μ-loop
-    (λ c. let room = c .before .before .pre .room in omega arith)
     (λ c. search needs)
-    (λ c. (omega arith, advanced-none _ _))
     (λ c. omega arith)
     (λ c κs. search needs)
+    (λ c. (omega arith, c .idle .ensures ∙ next-none _ _ _, fires-none _ _ _, fired-none _ _ _))
+    (λ c. search needs)
+    (λ c. search needs)
+    (λ c. search needs)
+    (λ c. search needs)
+    (λ c. search needs)
+    (λ c. search needs)
+    (λ c. search needs)
+    (λ c. search needs)
+    (λ c. search needs)
+    (λ c. search needs)
+    (λ c. search needs)
+    (λ c. search needs)
+    (λ c. search needs)
+    (λ c. search needs)
     (λ c κs. search needs)
-    (λ c. search needs)
-    (λ c. search needs)
-    (λ c. search needs)
-    (λ c. search needs)
-    (λ c. search needs)
-    (λ c. search needs)
-    (λ c. search needs)
-    (λ c. search needs)
-    (λ c. search needs)
-    (λ c. search needs)
-    (λ c. search needs)
-    (λ c. search needs)
-    outcome-requires
     (λ c. search needs)
     (λ c. search needs)
     (λ c. search needs)

@@ -1,0 +1,240 @@
+-- The bench sheet of document 01: its starred cases with 15, and cases on the edge of a threshold, as one table over bytes. A case's opening and
+-- rounds are spelled in bytes; `read-opening` and `step-of`, which the promises of `Run::open` and `step` cite, say what is answered to them, and
+-- the test compares that with the sheet. proofs/Sheet.antt has the checker do so.
+use Prim.Native.Nat.{ℕ, suc}
+use mathlib.Core.Bool.{Bool, true, false, _&&_}
+use mathlib.Core.List.{List, [], _∷_, _++_, map}
+use mathlib.Core.Option.{Option, none, some}
+use lib.Dec.{eqb}
+use lib.ListN.{length, getD, set, replicate}
+use Rattle.paper.specs.Stations.{one}
+use Rattle.run.specs.declared.Reply.{Reply}
+use Rattle.run.specs.declared.Setup.{Setup}
+use Rattle.run.specs.declared.Run.{Run}
+use Rattle.run.specs.Opening.{opening, read-opening}
+use Rattle.run.specs.Reply.{number-of, place-of}
+use Rattle.run.specs.Written.{written}
+use Rattle.round.specs.declared.Cell.{Cell}
+use Rattle.round.specs.declared.Cell.the-variants.{Lost, Value, Query}
+use Rattle.round.specs.Cells.{cell-record}
+use Rattle.hearing.specs.Tally.{is-there, value-or-0}
+use Rattle.judge.specs.declared.Stepped.{Stepped}
+use Rattle.judge.specs.Step.{step-of}
+
+-- a row of cells for each receiver
+abbrev pub Rows : Type 0
+Rows = List (List Cell)
+
+-- a number, or none: "?" among votes, "-" among firings and decisions
+abbrev pub Mark : Type 0
+Mark = Option ℕ
+
+-- a round offered, and its answer: accepted, with the estimates, votes and firings of the stations; or refused, with number and place
+pub data Offer : Type 0 where
+  accepted : Rows → List ℕ → List Mark → List Mark → Offer
+  refused : Rows → ℕ → ℕ → Offer
+
+-- a setup, and the number of the reply to an opening with it; or a run: setup, default, starts, the rounds offered in a row, and what the
+-- stations have decided at the end, the values and then their rounds
+pub data Case : Type 0 where
+  opens : Setup → ℕ → Case
+  runs : Setup → ℕ → List ℕ → List Offer → List Mark → List ℕ → Case
+
+-- the bytes of the rows, the first of which is that of receiver p
+unfoldable pub bytes-from : ℕ → Rows → List ℕ
+unfolding written cell-record
+bytes-from p [] = []
+bytes-from p (row ∷ rows) = written (length row) (λ q. cell-record p q (getD row q Lost)) ++ bytes-from (suc p) rows
+
+abbrev pub bytes : Rows → List ℕ
+bytes = bytes-from 0
+
+abbrev pub says : Reply → ℕ → ℕ → Bool
+says reply number place = eqb (number-of reply) number && eqb (place-of reply) place
+
+-- an array holds these numbers, and zeros after them
+unfoldable pub holds : List ℕ → List ℕ → Bool
+holds [] [] = true
+holds [] (y ∷ ys) = false
+holds (x ∷ xs) [] = eqb x 0 && holds xs []
+holds (x ∷ xs) (y ∷ ys) = eqb x y && holds xs ys
+
+-- two arrays, flags and numbers, hold these marks
+unfoldable pub marked : List Bool → List ℕ → List Mark → Bool
+unfolding holds one
+marked flags numbers ms = holds (map one flags) (map (λ m. one (is-there m)) ms) && holds numbers (map value-or-0 ms)
+
+-- the answer to a round is as the sheet says
+unfoldable pub answers : Offer → Stepped → Bool
+unfolding marked
+answers (accepted rows estimates votes firings) s =
+    says (s .reply) 0 0 && holds (s .run .estimates) estimates && marked (s .run .voted) (s .run .votes) votes
+    && marked (s .fires) (s .fired) firings
+answers (refused rows number place) s = says (s .reply) number place
+
+abbrev rows-of : Offer → Rows
+rows-of (accepted rows estimates votes firings) = rows
+rows-of (refused rows number place) = rows
+
+-- and so is each answer of a run to rounds in a row, and what it has decided at the end
+unfoldable pub plays : Run → List Offer → List Mark → List ℕ → Bool
+unfolding answers bytes-from step-of
+plays run [] decisions rounds = marked (run .decided) (run .decisions) decisions && holds (run .rounds) rounds
+plays run (offer ∷ rest) decisions rounds =
+    let s = step-of run (bytes (rows-of offer)) in answers offer s && plays (s .run) rest decisions rounds
+
+unfoldable pub passes : Case → Bool
+unfolding opening read-opening plays
+passes (opens setup number) = says (read-opening (opening setup 0 []) .reply) number 0
+passes (runs setup default starts offers decisions rounds) =
+    let o = read-opening (opening setup default starts) in says (o .reply) 0 0 && plays (o .run) offers decisions rounds
+
+unfoldable pub test : List Case → Bool
+unfolding passes
+test [] = true
+test (c ∷ cs) = passes c && test cs
+
+-- how cases are written down: a setup as algorithm(n, T, E, alpha)
+abbrev pub A : ℕ → ℕ → ℕ → ℕ → Setup
+A n T E alpha = record { algorithm = 1; n = n; t = T; e = E; alpha = alpha }
+
+abbrev pub U : ℕ → ℕ → ℕ → ℕ → Setup
+U n T E alpha = record { algorithm = 2; n = n; t = T; e = E; alpha = alpha }
+
+abbrev pub all : {X : Type 0} → ℕ → X → List X
+all = replicate
+
+-- all receivers hear this
+abbrev pub all-hear : List Cell → Rows
+all-hear row = replicate (length row) row
+
+abbrev pub values : List ℕ → List Cell
+values = map Value
+
+-- but receiver p has this cell of sender q
+abbrev pub but : ℕ → ℕ → Cell → Rows → Rows
+but p q c rows = set rows p (set (getD rows p []) q c)
+
+-- 1 to 8, with A(1,0,0,0); then setups on either side of one inequality
+abbrev setups : List Case
+setups =
+    opens (A 3 2 2 0) 0
+    ∷ opens (A 3 1 2 0) 4
+    ∷ opens (A 7 6 6 1) 0
+    ∷ opens (A 7 6 5 1) 4
+    ∷ opens (A 5 4 4 1) 4
+    ∷ opens (U 2 1 1 0) 0
+    ∷ opens (U 6 4 4 1) 0
+    ∷ opens (U 5 4 3 1) 4
+    ∷ opens (A 1 0 0 0) 4
+    ∷ opens (A 3 2 3 0) 4
+    ∷ opens (A 3 3 2 0) 4
+    ∷ opens (U 2 1 2 0) 4
+    ∷ opens (U 2 2 1 0) 4
+    ∷ opens (U 6 3 4 1) 4
+    ∷ opens (U 5 3 4 1) 4
+    ∷ opens (U 10 7 7 2) 0
+    ∷ opens (A 11 10 10 2) 0
+    ∷ opens (A 8 5 7 1) 4
+    ∷ opens (A 8 6 7 1) 0
+    ∷ []
+
+-- 9: starts 5 5 9, all heard: 5 5 5, none decides. Again all heard: all decide 5 in round 2. Once more: the rule fires again, and round 2 is kept
+abbrev case-9 : Case
+case-9 =
+    runs (A 3 2 2 0) 0 (5 ∷ 5 ∷ 9 ∷ [])
+    (accepted (all-hear (values (5 ∷ 5 ∷ 9 ∷ []))) (5 ∷ 5 ∷ 5 ∷ []) (all 3 none) (all 3 none)
+    ∷ accepted (all-hear (values (5 ∷ 5 ∷ 5 ∷ []))) (5 ∷ 5 ∷ 5 ∷ []) (all 3 none) (all 3 (some 5))
+    ∷ accepted (all-hear (values (5 ∷ 5 ∷ 5 ∷ []))) (5 ∷ 5 ∷ 5 ∷ []) (all 3 none) (all 3 (some 5))
+    ∷ [])
+    (all 3 (some 5)) (all 3 2)
+
+-- 10: starts 5 9 7, all heard: 5 5 5; and the same with the smallest not heard first
+abbrev case-10 : ℕ → ℕ → ℕ → Case
+case-10 x y z =
+    runs (A 3 2 2 0) 0 (x ∷ y ∷ z ∷ [])
+    (accepted (all-hear (values (x ∷ y ∷ z ∷ []))) (5 ∷ 5 ∷ 5 ∷ []) (all 3 none) (all 3 none) ∷ []) (all 3 none) (all 3 0)
+
+-- 11: starts 5 5 9, station 2 hears 0 and 1 only: it keeps 9
+abbrev case-11 : Case
+case-11 =
+    runs (A 3 2 2 0) 0 (5 ∷ 5 ∷ 9 ∷ [])
+    (accepted (but 2 2 Lost (all-hear (values (5 ∷ 5 ∷ 9 ∷ [])))) (5 ∷ 5 ∷ 9 ∷ []) (all 3 none) (all 3 none) ∷ []) (all 3 none)
+    (all 3 0)
+
+-- 12: all start 4. All hear 8 from all: 6 at 0. Station 0 hears 8 from two senders: 6 at 0. From station 6 alone: it keeps 4 and doesn't
+-- decide; the rest decide 4, in round 1
+abbrev case-12 : Case
+case-12 =
+    runs (A 7 6 6 1) 0 (all 7 4)
+    (refused (all-hear (all 7 (Value 8))) 6 0
+    ∷ refused (but 0 5 (Value 8) (but 0 6 (Value 8) (all-hear (all 7 (Value 4))))) 6 0
+    ∷ accepted (but 0 6 (Value 8) (all-hear (all 7 (Value 4)))) (all 7 4) (all 7 none) (none ∷ all 6 (some 4))
+    ∷ [])
+    (none ∷ all 6 (some 4)) (0 ∷ all 6 1)
+
+-- 13: all start 3, station 2 hears 7 from 5: accepted, all vote 3; votes all heard: all decide 3 in round 2
+abbrev case-13 : Case
+case-13 =
+    runs (U 6 4 4 1) 0 (all 6 3)
+    (accepted (but 2 5 (Value 7) (all-hear (all 6 (Value 3)))) (all 6 3) (all 6 (some 3)) (all 6 none)
+    ∷ accepted (all-hear (all 6 (Value 3))) (all 6 3) (all 6 none) (all 6 (some 3))
+    ∷ [])
+    (all 6 (some 3)) (all 6 2)
+
+-- 14: starts 1 1 1 2 2 2, default 0, all heard: votes "?", then estimates 0; all decide 0 in round 4. The same with another default; from starts
+-- with just T of one value; and where station 0 hears one vote of 7 in round 2, which is alpha votes
+abbrev case-14 : ℕ → List ℕ → Cell → Case
+case-14 default starts c =
+    runs (U 6 4 4 1) default starts
+    (accepted (all-hear (values starts)) starts (all 6 none) (all 6 none)
+    ∷ accepted (but 0 5 c (all-hear (all 6 Query))) (all 6 default) (all 6 none) (all 6 none)
+    ∷ accepted (all-hear (all 6 (Value default))) (all 6 default) (all 6 (some default)) (all 6 none)
+    ∷ accepted (all-hear (all 6 (Value default))) (all 6 default) (all 6 none) (all 6 (some default))
+    ∷ [])
+    (all 6 (some default)) (all 6 4)
+
+-- 15: row 0 loses two, row 3 has two altered: 6 at 3. Without the altered ones: 7 at 0
+abbrev row-0-loses : Rows → Rows
+row-0-loses rows = but 0 1 Lost (but 0 2 Lost rows)
+
+abbrev case-15 : Case
+case-15 =
+    runs (U 6 4 4 1) 0 (all 6 3)
+    (refused (row-0-loses (but 3 4 (Value 7) (but 3 5 (Value 7) (all-hear (all 6 (Value 3)))))) 6 3
+    ∷ refused (row-0-loses (all-hear (all 6 (Value 3)))) 7 0
+    ∷ [])
+    (all 6 none) (all 6 0)
+
+-- station 0 loses its own frame and hears 4 four times, which is more than E and not more than T: it keeps 9 and decides 4
+abbrev decides-unheld : Case
+decides-unheld =
+    runs (A 5 4 3 0) 0 (9 ∷ all 4 4)
+    (accepted (but 0 0 Lost (all-hear (values (9 ∷ all 4 4)))) (9 ∷ all 4 4) (all 5 none) (all 5 (some 4)) ∷ []) (all 5 (some 4)) (all 5 1)
+
+-- station 0 hears 4 for the 9 of station 6, which loses all: station 0 decides 4, and six stations hold it, no more than E
+abbrev few-hold : Case
+few-hold =
+    runs (A 7 6 6 1) 0 (4 ∷ 4 ∷ 4 ∷ 4 ∷ 4 ∷ 4 ∷ 9 ∷ [])
+    (accepted (but 0 6 (Value 4) (set (all-hear (values (4 ∷ 4 ∷ 4 ∷ 4 ∷ 4 ∷ 4 ∷ 9 ∷ []))) 6 (all 7 Lost))) (4 ∷ 4 ∷ 4 ∷ 4 ∷ 4 ∷ 4 ∷ 9 ∷ [])
+    (all 7 none) (some 4 ∷ all 6 none)
+    ∷ [])
+    (some 4 ∷ all 6 none) (1 ∷ all 6 0)
+
+unfoldable pub sheet : List Case
+sheet =
+    setups
+    ++ (case-9
+    ∷ case-10 5 9 7
+    ∷ case-10 9 5 7
+    ∷ case-11
+    ∷ case-12
+    ∷ case-13
+    ∷ case-14 0 (1 ∷ 1 ∷ 1 ∷ 2 ∷ 2 ∷ 2 ∷ []) Query
+    ∷ case-14 8 (1 ∷ 1 ∷ 1 ∷ 2 ∷ 2 ∷ 2 ∷ []) Query
+    ∷ case-14 0 (1 ∷ 1 ∷ 1 ∷ 1 ∷ 2 ∷ 2 ∷ []) Query
+    ∷ case-14 0 (1 ∷ 1 ∷ 1 ∷ 2 ∷ 2 ∷ 2 ∷ []) (Value 7)
+    ∷ case-15
+    ∷ decides-unheld
+    ∷ few-hold
+    ∷ [])

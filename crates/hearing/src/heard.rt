@@ -1,0 +1,146 @@
+// Whom a receiver heard, a sender to a bit (document 01, "Who heard whom").
+ghost use mathlib.Core.Path.{_≡_};
+ghost use Prim.Native.Nat.{_-_, _*_, _^_, _<_, min};
+ghost use Rattle.paper.specs.Stations.{one};
+ghost use Rattle.paper.specs.Heard.{arrived, holds, R};
+ghost use Rattle.run.specs.Run.{stations};
+ghost use Rattle.hearing.specs.Masks.{mask};
+ghost use Rattle.round.specs.Cells.{paper-cell};
+ghost use Rattle.hearing.specs.Survey.{message, messages-of, row-of, sets-of, prescribed};
+ghost use Rattle.hearing.specs.Tally.{passes-in, among, any};
+use super::Sent;
+use super::Sets;
+use round::Cell;
+use round::Slot;
+use run::Run;
+
+// How many of the n stations an array has a place for.
+pub(crate) fn places(n: u8) -> usize
+    ensures { λ r. ⌜ r ≡ min n stations ⌝ }
+{
+    let all = n as usize;
+    if all < Run::STATIONS {
+        all
+    } else {
+        Run::STATIONS
+    }
+}
+
+// What station q adds to a mask.
+fn bit(q: usize, there: bool) -> u32
+    requires { ⌜ q < stations ⌝ }
+    ensures { λ r. ⌜ r ≡ one there * 2 ^ q ⌝ }
+{
+    (there as u32) << q
+}
+
+// Whether the cell holds something.
+fn arrived(c: Cell) -> bool
+    ensures { λ r. ⌜ r ≡ arrived (paper-cell c) ⌝ }
+{
+    match c {
+        Cell::Lost => false,
+        Cell::Value(_) => true,
+        Cell::Query => true,
+    }
+}
+
+// Whether the cell holds just this message: the value where it is given, else "?".
+fn holds(c: Cell, given: bool, value: u32) -> bool
+    ensures { λ r. ⌜ r ≡ holds (paper-cell c) (message given value) ⌝ }
+{
+    match c {
+        Cell::Lost => false, // a lost cell is no value, and so not 0
+        Cell::Value(v) => given && v == value,
+        Cell::Query => !given,
+    }
+}
+
+// Whether the cell holds a value.
+fn has_value(c: Cell) -> bool
+    ensures { λ r. ⌜ r ≡ passes-in any (paper-cell c) ⌝ }
+{
+    match c {
+        Cell::Lost => false,
+        Cell::Value(_) => true,
+        Cell::Query => false,
+    }
+}
+
+// What each station ought to send: its vote in a vote round, else its estimate.
+pub fn prescribed(votes: bool, run: Run) -> Sent
+    ensures { λ r. ⌜ r ≡ prescribed votes run ⌝ }
+{
+    if votes {
+        let given = run.voted;
+        let values = run.votes;
+        Sent { given, values }
+    } else {
+        let given = [true; Run::STATIONS];
+        let values = run.estimates;
+        Sent { given, values }
+    }
+}
+
+// Whom a receiver heard among n senders, and from whom it heard what that sender ought to send.
+pub fn sets_of(cells: [Slot; Run::STATIONS], sent: Sent, n: u8) -> Sets
+    ensures { λ r. ⌜ r ≡ sets-of (min n stations) (row-of cells) (messages-of sent) ⌝ }
+{
+    let given = sent.given;
+    let values = sent.values;
+    let last = places(n);
+    let mut ho: u32 = 0;
+    let mut sho: u32 = 0;
+    let mut q: usize = 0;
+    while q < last {
+        let slot = cells[q];
+        let c = slot.cell;
+        ho += bit(q, arrived(c));
+        sho += bit(q, holds(c, given[q], values[q]));
+        q += 1;
+    }
+    Sets { ho, sho }
+}
+
+// Whom a receiver heard otherwise than was to be sent: SHO is a part of HO, so its mask is what is left of HO's.
+pub fn altered(sets: Sets) -> u32
+    ensures { λ r. ⌜ r ≡ sets .ho - sets .sho ⌝ }
+{
+    if sets.sho <= sets.ho {
+        sets.ho - sets.sho
+    } else {
+        0
+    }
+}
+
+// From whom among n senders a receiver has the value v.
+pub(crate) fn senders(cells: [Slot; Run::STATIONS], n: u8, v: u32) -> u32
+    ensures { λ r. ⌜ r ≡ mask (min n stations) (R (row-of cells) v) ⌝ }
+{
+    let last = places(n);
+    let mut set: u32 = 0;
+    let mut q: usize = 0;
+    while q < last {
+        let slot = cells[q];
+        let c = slot.cell;
+        set += bit(q, holds(c, true, v));
+        q += 1;
+    }
+    set
+}
+
+// Who among n senders sent a value.
+pub(crate) fn speakers(cells: [Slot; Run::STATIONS], n: u8) -> u32
+    ensures { λ r. ⌜ r ≡ mask (min n stations) (among any (row-of cells)) ⌝ }
+{
+    let last = places(n);
+    let mut set: u32 = 0;
+    let mut q: usize = 0;
+    while q < last {
+        let slot = cells[q];
+        let c = slot.cell;
+        set += bit(q, has_value(c));
+        q += 1;
+    }
+    set
+}

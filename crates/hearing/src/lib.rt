@@ -1,0 +1,38 @@
+// Who heard whom: HO and SHO of each receiver, their sizes against thresholds, how often values came, and the survey (document 01, "Who heard
+// whom").
+pub mod heard; // whom a receiver heard
+pub mod guard; // sizes against thresholds
+pub mod count; // how often values came
+pub mod surveys; // HO and SHO of a round
+
+ghost use mathlib.Core.Path.{_≡_};
+use run::Reply;
+use run::Run;
+
+// What each station ought to send: its value where that is given, else "?".
+pub struct Sent {
+    pub given: [bool; Run::STATIONS],
+    pub values: [u32; Run::STATIONS],
+}
+
+// Whom a receiver heard, and whom it heard safely, a sender to a bit.
+pub struct Sets {
+    pub ho: u32,
+    pub sho: u32,
+}
+
+// HO and SHO of each receiver; all empty where the round is refused.
+pub struct Survey {
+    pub reply: Reply,
+    pub ho: [u32; Run::STATIONS],
+    pub sho: [u32; Run::STATIONS],
+}
+
+// The count of a row: the value received most often, the smallest of these, with the set of its senders (0 and no sender for a row
+// without values); and the smallest value that came often enough, if there is one.
+pub struct Tally {
+    pub value: u32,
+    pub senders: u32,
+    pub found: bool,
+    pub least: u32,
+}

@@ -1,0 +1,3 @@
+-- Laws about the definitions that the contracts cite.
+pub mod Putting
+pub mod Runs

@@ -1,0 +1,45 @@
+-- `listing::text::put_round` meets its contract: the number, the three parts and the line's end are put in turn.
+use native.Mathlib.Omega.{arith}
+use borrow.Author.Needs.{needs}
+use Rattle.listing.specs.Text.{round-line}
+use Rattle.listing.proofs.Putting.{put-then}
+use Rattle.listing.proofs.text.put_round.Statement.{statement}
+use Rattle.listing.proofs.text.put_round.Tie as tie
+
+returns : tie.Need-returns
+unfolding round-line
+returns c =
+    let end = c .before .before in
+    let decide = end .before .before .before .before in
+    let vote = decide .before .before .before .before .before in
+    let hold = vote .before .before .before .before .before in
+    let numbered = hold .before .before .before .before .before in
+    let start = numbered .before .before .before .before .before .before in (
+      put-then
+          (put-then (put-then (put-then (numbered .put-number .ensures .0) (hold .put-part .ensures .0)) (vote .put-part2 .ensures .0)) (decide .put-part3 .ensures .0))
+          (end .put-byte .ensures),
+      omega (
+        arith,
+        end .put-byte .ensures .ends,
+        decide .put-part3 .ensures .1,
+        vote .put-part2 .ensures .1,
+        hold .put-part .ensures .1,
+        numbered .put-number .ensures .1,
+        start .pre .0,
+      ),
+    )
+
+pub put-round-spec : {M : Type 1} → statement M
+put-round-spec =
+    tie.close
+    (tie.spec
+    (λ c κs. search needs)
+    (λ c. search needs)
+    (λ c κs. search needs)
+    (λ c. search needs)
+    (λ c κs. search needs)
+    (λ c. search needs)
+    (λ c κs. search needs)
+    (λ c κs. search needs)
+    (λ c. search needs)
+    returns)

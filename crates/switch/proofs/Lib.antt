@@ -1,0 +1,4 @@
+-- Laws about the definitions of specs/.
+pub mod Calls
+pub mod Next
+pub mod Switch
