@@ -2,22 +2,26 @@
 -- them back, and by Leads.antt that changes the answers as `with-most` and `with-least` do. Where nothing is left to strike, the row is whole.
 use mathlib.Core.Path.{_≡_, refl, sym, ap, _∙_, subst}
 use mathlib.Core.Bool.{Bool, true, false, not, _&&_, _||_, cond, false≢true}
+use mathlib.Core.List.{List}
 use mathlib.Core.Option.{Option, none, some}
 use mathlib.Core.Logic.{_≢_}
 use Prim.Native.Nat.{ℕ, _+_, _-_, _≤_, _<_}
 use native.Mathlib.Omega.{arith}
 use lib.Count.{ones, trailingZeros}
 use lib.Dec.{eqb, leb, ltb}
-use borrow.Author.Tests.{lt-ltb, ltb-true, ltb-false, leb-true, leb-false, eqb-true, eqb-false, eq-eqb, ne-eqb}
+use borrow.Author.Tests.{lt-ltb, ltb-true, ltb-false, leb-true, leb-false, lt-leb, eqb-true, eqb-false, eq-eqb, ne-eqb}
 use Rattle.paper.specs.Stations.{All, _∖_}
 use Rattle.paper.specs.Heard.{val, query, Cell, lost, heard, Row, holds, R}
 use Rattle.paper.specs.Rules.{times, smallest, most-often}
 use Rattle.paper.proofs.Sets.{same-refl}
 use Rattle.paper.proofs.MostOften.{came}
 use Rattle.paper.proofs.Pins.{times-alike, smallest-alike, most-often-alike, value-in}
+use Rattle.run.specs.Run.{stations}
+use Rattle.run.specs.Filled.{filled}
+use Rattle.run.proofs.Filled.{filled-below}
 use Rattle.hearing.specs.declared.Tally.{Tally}
 use Rattle.hearing.specs.Masks.{mask}
-use Rattle.hearing.specs.Tally.{is-there, value-or-0, senders-of, tally, with-most, with-least, value-of, passes-in, among, any}
+use Rattle.hearing.specs.Tally.{is-there, value-or-0, senders-of, tally, with-most, with-least, value-of, passes-in, among, any, code-of, from-on}
 use Rattle.hearing.proofs.Masks.{mask-cong, mask-none, mask-empty, mask-pos, mask-part, mask-lowest, ones-mask}
 use Rattle.hearing.proofs.Leads.{Leads, Reaches, leads-iff, leads-none, none-leads, reaches-iff, reaches-none, none-reaches, new-leads, old-leads, new-reaches, old-reaches, none-still}
 
@@ -258,6 +262,27 @@ left-value P lost e = absurd (false≢true e)
 left-value P (heard query) e = absurd (false≢true e)
 left-value P (heard (val v)) e = (refl, e)
 
+-- a cell's code tells its value, and one who sent a value that is left is left
+code-holds : (c : Cell) (v : ℕ) → eqb (code-of c) (v + 1) ≡ holds c (val v)
+unfolding holds
+code-holds lost v = ne-eqb 0 (v + 1) (λ e. omega arith)
+code-holds (heard query) v = ne-eqb 0 (v + 1) (λ e. omega arith)
+code-holds (heard (val w)) v = go (eqb w v) refl
+  where
+    go : (b : Bool) → eqb w v ≡ b → eqb (w + 1) (v + 1) ≡ b
+    go true e = eq-eqb (w + 1) (v + 1) (ap (λ (x : ℕ). x + 1) (eqb-true w v e))
+    go false e = ne-eqb (w + 1) (v + 1) (λ h. eqb-false w v e (omega arith))
+
+holder-waits : (P : ℕ → Bool) (c : Cell) (v : ℕ) → holds c (val v) ≡ true → P v ≡ true → passes-in P c ≡ true
+unfolding holds
+holder-waits P lost v e h = absurd (false≢true e)
+holder-waits P (heard query) v e h = absurd (false≢true e)
+holder-waits P (heard (val w)) v e h = rw (eqb-true w v e) h
+
+-- nobody stands from a sender on and before it
+pub none-before : (codes : List ℕ) (first v : ℕ) → mask first (from-on codes first v) ≡ 0
+none-before codes first v = mask-cong first (from-on codes first v) (λ q. false) (λ q l. rw (lt-leb first q l)) ∙ mask-none first
+
 -- the loop's invariant: some values are left, and all others are counted
 pub record Counted (n k : ℕ) (row : Row) (left : ℕ) (t : Tally) : Type 0 where
   pub waits : ℕ → Bool
@@ -273,10 +298,32 @@ ends {n} {k} {row} c e = c .done ∙ struck-none n k row (c .waits) (sym (c .lef
 
 module _ {n k : ℕ} {row : Row} {left : ℕ} {t : Tally} (c : Counted n k row left t) (fits : n ≤ 32) (more : left ≢ 0) where
   next-waits : (trailingZeros 32 left < n) × (among (c .waits) row (trailingZeros 32 left) ≡ true)
+      × ((i : ℕ) → i < trailingZeros 32 left → among (c .waits) row i ≡ false)
   next-waits = rw (c .left-is) (mask-lowest n 32 (among (c .waits) row) fits (omega (arith, c .left-is)))
 
   pub next-below : trailingZeros 32 left < n
   next-below = next-waits .0
+
+  -- all who sent its value stand from it on
+  module _ (v : ℕ) (codes : List ℕ) (v-is : v ≡ value-of (row (trailingZeros 32 left)))
+      (codes-are : codes ≡ filled stations n (λ q. code-of (row q)) 0) where
+    waits-v : c .waits v ≡ true
+    waits-v = rw v-is (left-value (c .waits) (row (trailingZeros 32 left)) (next-waits .1) .1)
+
+    from-next : All n (λ q. from-on codes (trailingZeros 32 left) v q ≡ R row v q)
+    unfolding R
+    from-next q below =
+        rw (codes-are, filled-below stations n (λ q. code-of (row q)) 0 q 0 (omega arith) below, code-holds (row q) v)
+        (go (leb (trailingZeros 32 left) q) (holds (row q) (val v)) refl refl)
+      where
+        go : (a b : Bool) → leb (trailingZeros 32 left) q ≡ a → holds (row q) (val v) ≡ b → a && b ≡ b
+        go true b e h = refl
+        go false false e h = refl
+        go false true e h =
+            absurd (false≢true (sym (next-waits .2 q (leb-false (trailingZeros 32 left) q e)) ∙ holder-waits (c .waits) (row q) v h waits-v))
+
+    pub senders-all : mask n (from-on codes (trailingZeros 32 left) v) ≡ mask n (R row v)
+    senders-all = mask-cong n (from-on codes (trailingZeros 32 left) v) (R row v) from-next
 
   -- its value, and who sent that
   module _ (v set : ℕ) (v-is : v ≡ value-of (row (trailingZeros 32 left))) (set-is : set ≡ mask n (R row v)) where

@@ -131,7 +131,7 @@ unfolding trailingZeros
 trailing n k X = ap₂ under (low n X) (ap (trailingZeros k) (half n X))
 
 abbrev Lowest : ℕ → Stations → ℕ → Type 0
-Lowest n X q = (q < n) × (X q ≡ true)
+Lowest n X q = (q < n) × (X q ≡ true) × ((i : ℕ) → i < q → X i ≡ false)
 
 pub mask-lowest : (n k : ℕ) (X : Stations) → n ≤ k → 0 < mask n X → Lowest n X (trailingZeros k (mask n X))
 unfolding mask one
@@ -144,8 +144,12 @@ mask-lowest (suc n) (suc k) X h pos =
     rest = trailingZeros k (mask n (λ q. X (suc q)))
 
     go : (b : Bool) → X 0 ≡ b → (0 < mask n (λ q. X (suc q)) → Lowest n (λ q. X (suc q)) rest) → Lowest (suc n) X (under (one b) rest)
-    go true e below = (omega arith, e)
+    go true e below = (omega arith, e, λ i l. absurd (omega arith))
     go false e below =
         let none-low : one (X 0) ≡ 0 = ap one e in
         let found = below (omega (arith, mask-low n X)) in
-        (omega (arith, found .0), found .1)
+        (omega (arith, found .0), found .1, none-under (found .2))
+      where
+        none-under : ((i : ℕ) → i < rest → X (suc i) ≡ false) → (i : ℕ) → i < suc rest → X i ≡ false
+        none-under under-rest zero l = e
+        none-under under-rest (suc i) l = under-rest i (omega arith)

@@ -1,13 +1,18 @@
 -- The count of a row: document 01, "Algorithm A" ("the value received most often, the smallest of these on a tie") and "Algorithm U" ("the
 -- smallest such v if there are several").
-use Prim.Native.Nat.{ℕ}
+use Prim.Native.Nat.{ℕ, _+_}
 use mathlib.Core.Bool.{Bool, true, false, not, _&&_, _||_, cond}
+use mathlib.Core.List.{List}
 use mathlib.Core.Option.{Option, none, some}
 use lib.Count.{ones}
 use lib.Dec.{eqb, leb, ltb}
+use lib.ListN.{getD}
 use Rattle.paper.specs.Stations.{Stations}
 use Rattle.paper.specs.Heard.{val, query, Cell, lost, heard, Row, R}
 use Rattle.paper.specs.Rules.{times, smallest, most-often}
+use Rattle.run.specs.Run.{stations}
+use Rattle.run.specs.Filled.{filled}
+use Rattle.hearing.specs.declared.Spoken.{Spoken}
 use Rattle.hearing.specs.declared.Tally.{Tally}
 use Rattle.hearing.specs.Masks.{mask}
 
@@ -76,3 +81,18 @@ among test row q = passes-in test (row q)
 
 abbrev pub any : ℕ → Bool
 any v = true
+
+-- a cell's value as a plain number: 0 where it has none
+abbrev pub code-of : Cell → ℕ
+code-of lost = 0
+code-of (heard query) = 0
+code-of (heard (val v)) = v + 1
+
+-- the values of a row of n senders, and who sent one
+unfoldable pub spoken-in : ℕ → Row → Spoken
+unfolding filled mask
+spoken-in n row = record { codes = filled stations n (λ q. code-of (row q)) 0; senders = mask n (among any row) }
+
+-- who sent v, from this sender on
+abbrev pub from-on : List ℕ → ℕ → ℕ → Stations
+from-on codes first v q = leb first q && eqb (getD codes q 0) (v + 1)

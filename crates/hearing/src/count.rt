@@ -80,13 +80,15 @@ pub fn tally(cells: [Slot; Run::STATIONS], n: u8, k: u32) -> Tally
         found: false,
         least: 0,
     };
-    let mut left = heard::speakers(cells, n);
+    let spoken = heard::spoken(cells, n);
+    let codes = spoken.codes;
+    let mut left = spoken.senders;
     while left != 0 {
         let q = u32::trailing_zeros(left) as usize;
         let slot = cells[q];
         let c = slot.cell;
         let v = value_of(c);
-        let set = heard::senders(cells, n, v);
+        let set = heard::senders(&codes, q, n, v);
         t = with_least(with_most(t, v, set), v, set, k);
         left -= set;
     }

@@ -1,15 +1,16 @@
 // Whom a receiver heard, a sender to a bit (document 01, "Who heard whom").
 ghost use mathlib.Core.Path.{_≡_};
-ghost use Prim.Native.Nat.{_-_, _*_, _^_, _<_, min};
+ghost use Prim.Native.Nat.{_-_, _*_, _^_, _≤_, _<_, min};
 ghost use Rattle.paper.specs.Stations.{one};
-ghost use Rattle.paper.specs.Heard.{arrived, holds, R};
+ghost use Rattle.paper.specs.Heard.{arrived, holds};
 ghost use Rattle.run.specs.Run.{stations};
 ghost use Rattle.hearing.specs.Masks.{mask};
 ghost use Rattle.round.specs.Cells.{paper-cell};
 ghost use Rattle.hearing.specs.Survey.{message, messages-of, row-of, sets-of, prescribed};
-ghost use Rattle.hearing.specs.Tally.{passes-in, among, any};
+ghost use Rattle.hearing.specs.Tally.{passes-in, any, code-of, spoken-in, from-on};
 use super::Sent;
 use super::Sets;
+use super::Spoken;
 use round::Cell;
 use round::Slot;
 use run::Run;
@@ -113,33 +114,45 @@ pub fn altered(sets: Sets) -> u32
     }
 }
 
-// From whom among n senders a receiver has the value v.
-pub(crate) fn senders(cells: [Slot; Run::STATIONS], n: u8, v: u32) -> u32
-    ensures { λ r. ⌜ r ≡ mask (min n stations) (R (row-of cells) v) ⌝ }
+// A cell's value as a number that is 0 where it has none.
+fn code_of(c: Cell) -> u64
+    ensures { λ r. ⌜ r ≡ code-of (paper-cell c) ⌝ }
 {
-    let last = places(n);
-    let mut set: u32 = 0;
-    let mut q: usize = 0;
-    while q < last {
-        let slot = cells[q];
-        let c = slot.cell;
-        set += bit(q, holds(c, true, v));
-        q += 1;
+    match c {
+        Cell::Lost => 0,
+        Cell::Value(v) => v as u64 + 1,
+        Cell::Query => 0,
     }
-    set
 }
 
-// Who among n senders sent a value.
-pub(crate) fn speakers(cells: [Slot; Run::STATIONS], n: u8) -> u32
-    ensures { λ r. ⌜ r ≡ mask (min n stations) (among any (row-of cells)) ⌝ }
+// The values of a row of n senders, and who sent one.
+pub(crate) fn spoken(cells: [Slot; Run::STATIONS], n: u8) -> Spoken
+    ensures { λ r. ⌜ r ≡ spoken-in (min n stations) (row-of cells) ⌝ }
 {
     let last = places(n);
-    let mut set: u32 = 0;
+    let mut codes: [u64; Run::STATIONS] = [0; Run::STATIONS];
+    let mut senders: u32 = 0;
     let mut q: usize = 0;
     while q < last {
         let slot = cells[q];
         let c = slot.cell;
-        set += bit(q, has_value(c));
+        codes[q] = code_of(c);
+        senders += bit(q, has_value(c));
+        q += 1;
+    }
+    Spoken { codes, senders }
+}
+
+// Who among n senders sent the value v, from this one on.
+pub(crate) fn senders(codes: &[u64; Run::STATIONS], first: usize, n: u8, v: u32) -> u32
+    requires { ⌜ first ≤ min n stations ⌝ }
+    ensures { λ r. ⌜ r ≡ mask (min n stations) (from-on (now (codes .entry)) first v) ⌝ }
+{
+    let last = places(n);
+    let mut set: u32 = 0;
+    let mut q = first;
+    while q < last {
+        set += bit(q, codes[q] == v as u64 + 1);
         q += 1;
     }
     set

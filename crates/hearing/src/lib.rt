@@ -21,6 +21,12 @@ pub struct Sets {
     pub sho: u32,
 }
 
+// The values of a row as plain numbers, v + 1 for a value v and 0 for none, and who sent one.
+pub struct Spoken {
+    pub codes: [u64; Run::STATIONS],
+    pub senders: u32,
+}
+
 // HO and SHO of each receiver; all empty where the round is refused.
 pub struct Survey {
     pub reply: Reply,
