@@ -135,7 +135,7 @@ fn put_limits(out: &mut [u8], at: usize, s: Setup) -> usize
 }
 
 // `A n=3 T=2 E=2 alpha=0`
-pub fn put_setup(out: &mut [u8], at: usize, s: Setup) -> usize
+pub(crate) fn put_setup(out: &mut [u8], at: usize, s: Setup) -> usize
     requires { ⌜ at + longest ≤ length (now out) ⌝ }
     ensures { λ r. ⌜ Put (now (out .entry)) at (setup-line s) r (now (out .exit)) ⌝ }
     ensures { λ r. ⌜ r ≤ at + longest ⌝ }
@@ -165,7 +165,7 @@ fn put_part(
 }
 
 // `2 hold 5 5 5 vote ? ? ? decide 5 5 -`: the run after a round, and the values for which the decide rule fired in it.
-pub fn put_round(
+pub(crate) fn put_round(
     out: &mut [u8],
     at: usize,
     run: Run,
@@ -207,7 +207,7 @@ fn put_answer(out: &mut [u8], at: usize, word: &[u8], reply: Reply) -> usize
 }
 
 // `end rounds 2 answer 0 at 0`
-pub fn put_end(out: &mut [u8], at: usize, rounds: u32, reply: Reply) -> usize
+pub(crate) fn put_end(out: &mut [u8], at: usize, rounds: u32, reply: Reply) -> usize
     requires { ⌜ at + longest ≤ length (now out) ⌝ }
     ensures { λ r. ⌜ Put (now (out .entry)) at (end-line rounds reply) r (now (out .exit)) ⌝ }
     ensures { λ r. ⌜ r ≤ at + longest ⌝ }
@@ -217,7 +217,7 @@ pub fn put_end(out: &mut [u8], at: usize, rounds: u32, reply: Reply) -> usize
 }
 
 // `open refused 4 at 0`
-pub fn put_refusal(out: &mut [u8], at: usize, reply: Reply) -> usize
+pub(crate) fn put_refusal(out: &mut [u8], at: usize, reply: Reply) -> usize
     requires { ⌜ at + longest ≤ length (now out) ⌝ }
     ensures { λ r. ⌜ Put (now (out .entry)) at (refusal-line reply) r (now (out .exit)) ⌝ }
     ensures { λ r. ⌜ r ≤ at + longest ⌝ }
