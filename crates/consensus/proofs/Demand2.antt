@@ -9,7 +9,7 @@ use Prim.Native.Nat.{ℕ, suc, _+_, _*_, _/_, _%_, _^_, _≤_, _<_}
 use native.Mathlib.Numerals.{add-one}
 use native.Mathlib.Omega.{arith}
 use lib.ListN.{length, getD}
-use lib.Dec.{eqb, leb, ltb}
+use lib.Dec.{eqb, ltb}
 use borrow.Author.Tests.{eqb-true, eq-eqb, lt-ltb, le-leb}
 use Rattle.paper.specs.Stations.{one, size}
 use Rattle.paper.specs.Heard as heard
@@ -26,19 +26,18 @@ use Rattle.run.specs.Reply.{is-accepted, or-refuse}
 use Rattle.run.specs.Run.{stations, most-rounds, is-U, setup-of, sound}
 use Rattle.run.proofs.Replies.{then-accepted, accepted-then, or-refuse-accepted, accepted-or-refuse}
 use Rattle.run.proofs.Sound.{sound-iff}
-use Rattle.run.proofs.Filled.{filled-below}
 use Rattle.hearing.specs.Masks.{mask}
 use Rattle.round.specs.Reading.{in-turn, votes-next, round-length, check-cells, heard-in}
 use Rattle.hearing.specs.Survey.{station, kind-next, sent-next, ho-sets, sho-sets}
 use Rattle.hearing.specs.Tally.{is-there, value-or-0}
-use Rattle.hearing.proofs.Masks.{mask-bit}
 use Rattle.round.proofs.Readings.{cells-accepted}
 use Rattle.round.proofs.Turns.{turn-accepted}
 use Rattle.judge.specs.declared.Stepped.{Stepped}
-use Rattle.judge.specs.Step.{paper-setup, altered, safe, check-altered, check-safe, check-step, accepted, refused, step-of, run-after, station-after, fired-at}
+use Rattle.judge.specs.Step.{paper-setup, safe, check-altered, check-safe, check-step, accepted, refused, step-of, station-after, fired-at}
 use Rattle.judge.proofs.Stations.{station-next}
-use Rattle.judge.proofs.Steps.{sets-on, cells-on, length-on, room-on, Passed, passed, step-checked, step-accepted, refused-same, setup-same, default-same, clock-next, keeps-next}
-use Rattle.consensus.specs.Demand2.{round, WellFormed, Follows, Demand2}
+use Rattle.judge.proofs.Steps.{sets-on, cells-on, length-on, room-on, Passed, passed, step-checked, step-accepted, setup-same, default-same, clock-next, keeps-next}
+use Rattle.consensus.specs.Demand2.{round-by-paper, WellFormed, Follows, Leaves, Demand2}
+use Rattle.consensus.proofs.Outside.{filled-all, replicate-all, no-receiver, no-sender, lost-HO, lost-SHO, mask-bits, mask-zero, lost-fired}
 
 -- the step says what its checks say
 says-check : (run : Run) (bs : List ℕ) → step-of run bs .reply ≡ check-step run bs
@@ -58,8 +57,8 @@ module _ (run : Run) (bs : List ℕ) where
   Sent r q = rules.sends (rules.kind-of (paper-setup run .algorithm) r) (station run q)
 
   -- the predicates of the round, as the checks ask them and as the paper does
-  few-iff : check-altered run bs ≡ Accepted ↔ paper.P-alpha (paper-setup run) (round run bs)
-  unfolding check-altered paper.P-alpha paper.sent paper.kind round setup-of sent-next kind-next
+  few-iff : check-altered run bs ≡ Accepted ↔ paper.P-alpha (paper-setup run) (round-by-paper run bs)
+  unfolding check-altered paper.P-alpha paper.sent paper.kind round-by-paper setup-of sent-next kind-next
   few-iff = (
     λ e p h.
         subst (λ (r : ℕ). size n (heard.AHO (heard-in n bs p) (Sent r)) ≤ run .setup .alpha) (add-one (run .clock))
@@ -86,8 +85,8 @@ module _ (run : Run) (bs : List ℕ) where
     λ all. turn-accepted large-at n .1 (λ p h. accepted-or-refuse _ (Unsafe p) (all p h)),
   )
 
-  safe-iff : check-safe run bs ≡ Accepted ↔ (paper-setup run .algorithm ≡ setup.U → paper.P-safe (paper-setup run) (round run bs))
-  unfolding check-safe paper.P-safe paper.sent paper.kind round setup-of
+  safe-iff : check-safe run bs ≡ Accepted ↔ (paper-setup run .algorithm ≡ setup.U → paper.P-safe (paper-setup run) (round-by-paper run bs))
+  unfolding check-safe paper.P-safe paper.sent paper.kind round-by-paper setup-of
   safe-iff = go (is-U (run .setup)) refl
     where
       go : (b : Bool) → is-U (run .setup) ≡ b
@@ -99,7 +98,7 @@ module _ (run : Run) (bs : List ℕ) where
       go false q = (λ e u. absurd (A-not-U u), λ all. refl)
 
   Wanted : Type 0
-  Wanted = WellFormed run bs × paper.Safe (paper-setup run) (round run bs)
+  Wanted = WellFormed run bs × paper.Safe (paper-setup run) (round-by-paper run bs)
 
   taken-apart : check-step run bs ≡ Accepted → Wanted
   unfolding check-step Wanted
@@ -140,6 +139,10 @@ there-iff : (o : Option ℕ) (v : ℕ) → ((is-there o ≡ true) × (value-or-0
 there-iff none v = (λ h. absurd (false≢true (h .0)), λ e. let z : _≡_ {A = ℕ} 0 1 = cc in absurd (omega arith))
 there-iff (some w) v = (λ h. ap some (h .1), λ e. (refl, cc))
 
+nothing-there : (o : Option ℕ) → is-there o ≡ false → value-or-0 o ≡ 0
+nothing-there none e = refl
+nothing-there (some w) e = absurd (false≢true (sym e))
+
 -- E is at least half of n, under either algorithm
 E-half : (run : Run) → Keeps run → run .setup .n ≤ 2 * run .setup .e
 E-half run keeps = ⊎-elim (λ a. omega (arith, keeps .setup .T-under-A a)) (λ u. omega (arith, keeps .setup .E-under-U u)) (keeps .setup .algorithm)
@@ -154,47 +157,56 @@ module _ (run : Run) (bs : List ℕ) (e : is-accepted (step-of run bs .reply) �
   few-enough : run .setup .n ≤ stations
   few-enough = ok .keeps .setup .n-to
 
-  -- what is in place p of the answer's arrays
-  fires-at : (p : ℕ) → p < run .setup .n → getD (step-of run bs .fires) p false ≡ is-there (fired-at run bs p)
+  -- what is in place p of the answer's arrays: below n from the row's own, and from n up a row with nothing in it
+  row-lost : (p : ℕ) → run .setup .n ≤ p → (q : ℕ) → heard-in (run .setup .n) bs p q ≡ heard.lost
+  row-lost = no-receiver (run .setup .n) bs
+
+  unfired-above : (p : ℕ) → run .setup .n ≤ p → fired-at run bs p ≡ none
+  unfolding fired-at
+  unfired-above p h = lost-fired (paper-setup run) (kind-next run) (heard-in (run .setup .n) bs p) (row-lost p h)
+
+  fires-at : (p : ℕ) → getD (step-of run bs .fires) p false ≡ is-there (fired-at run bs p)
   unfolding accepted
-  fires-at p h =
+  fires-at p =
       ap (λ (s : Stepped). getD (s .fires) p false) is-accepted-answer
-      ∙ filled-below stations (run .setup .n) (λ q. is-there (fired-at run bs q)) false p false (omega (arith, few-enough)) h
+      ∙ filled-all (run .setup .n) (λ q. is-there (fired-at run bs q)) false few-enough (λ q h. ap is-there (unfired-above q h)) p
 
-  fired-value : (p : ℕ) → p < run .setup .n → getD (step-of run bs .fired) p 0 ≡ value-or-0 (fired-at run bs p)
+  fired-value : (p : ℕ) → getD (step-of run bs .fired) p 0 ≡ value-or-0 (fired-at run bs p)
   unfolding accepted
-  fired-value p h =
+  fired-value p =
       ap (λ (s : Stepped). getD (s .fired) p 0) is-accepted-answer
-      ∙ filled-below stations (run .setup .n) (λ q. value-or-0 (fired-at run bs q)) 0 p 0 (omega (arith, few-enough)) h
+      ∙ filled-all (run .setup .n) (λ q. value-or-0 (fired-at run bs q)) 0 few-enough (λ q h. ap value-or-0 (unfired-above q h)) p
 
-  ho-at : (p : ℕ) → p < run .setup .n → getD (step-of run bs .ho) p 0 ≡ mask (run .setup .n) (heard.HO (heard-in (run .setup .n) bs p))
+  ho-bit : (p q : ℕ) → getD (step-of run bs .ho) p 0 / 2 ^ q % 2 ≡ one (heard.HO (heard-in (run .setup .n) bs p) q)
   unfolding accepted ho-sets
-  ho-at p h =
-      ap (λ (s : Stepped). getD (s .ho) p 0) is-accepted-answer
-      ∙ filled-below stations (run .setup .n) (λ q. mask (run .setup .n) (heard.HO (heard-in (run .setup .n) bs q))) 0 p 0 (omega (arith, few-enough)) h
+  ho-bit p q =
+      let at = filled-all (run .setup .n) (λ r. mask (run .setup .n) (heard.HO (heard-in (run .setup .n) bs r))) 0 few-enough
+      (λ r h. mask-zero (run .setup .n) _ (λ j. lost-HO (heard-in (run .setup .n) bs r) j (row-lost r h j))) p in
+      ap (λ (s : Stepped). getD (s .ho) p 0 / 2 ^ q % 2) is-accepted-answer ∙ ap (λ (k : ℕ). k / 2 ^ q % 2) at
+      ∙ mask-bits (run .setup .n) _ (λ j h. lost-HO (heard-in (run .setup .n) bs p) j (no-sender (run .setup .n) bs p j h)) q
 
-  sho-at : (p : ℕ) → p < run .setup .n
-      → getD (step-of run bs .sho) p 0 ≡ mask (run .setup .n) (heard.SHO (heard-in (run .setup .n) bs p) (sent-next run))
+  sho-bit : (p q : ℕ) → getD (step-of run bs .sho) p 0 / 2 ^ q % 2 ≡ one (heard.SHO (heard-in (run .setup .n) bs p) (sent-next run) q)
   unfolding accepted sho-sets
-  sho-at p h =
-      ap (λ (s : Stepped). getD (s .sho) p 0) is-accepted-answer
-      ∙ filled-below stations (run .setup .n) (λ q. mask (run .setup .n) (heard.SHO (heard-in (run .setup .n) bs q) (sent-next run))) 0 p 0
-      (omega (arith, few-enough)) h
+  sho-bit p q =
+      let at = filled-all (run .setup .n) (λ r. mask (run .setup .n) (heard.SHO (heard-in (run .setup .n) bs r) (sent-next run))) 0 few-enough
+      (λ r h. mask-zero (run .setup .n) _ (λ j. lost-SHO (heard-in (run .setup .n) bs r) j (row-lost r h j) (sent-next run))) p in
+      ap (λ (s : Stepped). getD (s .sho) p 0 / 2 ^ q % 2) is-accepted-answer ∙ ap (λ (k : ℕ). k / 2 ^ q % 2) at
+      ∙ mask-bits (run .setup .n) _ (λ j h. lost-SHO (heard-in (run .setup .n) bs p) j (no-sender (run .setup .n) bs p j h) (sent-next run)) q
 
-  fires-iff-rule : (p v : ℕ) → p < run .setup .n
-      → ((getD (step-of run bs .fires) p false ≡ true) × (getD (step-of run bs .fired) p 0 ≡ v)) ↔ paper.FiresAt (paper-setup run) (round run bs) p v
-  unfolding paper.FiresAt paper.kind round fired-at kind-next setup-of
-  fires-iff-rule p v h =
+  fires-iff-rule : (p v : ℕ)
+      → ((getD (step-of run bs .fires) p false ≡ true) × (getD (step-of run bs .fired) p 0 ≡ v)) ↔ paper.FiresAt (paper-setup run) (round-by-paper run bs) p v
+  unfolding paper.FiresAt paper.kind round-by-paper fired-at kind-next setup-of
+  fires-iff-rule p v =
       let rule = fired-iff (paper-setup run) (kind-next run) (heard-in (run .setup .n) bs p) v (E-half run (ok .keeps)) in
       let numbered : ℕ → Type 0 = λ r. rules.Fires (paper-setup run) (rules.kind-of (paper-setup run .algorithm) r) (heard-in (run .setup .n) bs p) v in (
-        λ (f, w). subst numbered (add-one (run .clock)) (rule .0 (there-iff (fired-at run bs p) v .0 (sym (fires-at p h) ∙ f, sym (fired-value p h) ∙ w))),
+        λ (f, w). subst numbered (add-one (run .clock)) (rule .0 (there-iff (fired-at run bs p) v .0 (sym (fires-at p) ∙ f, sym (fired-value p) ∙ w))),
         λ f.
             let told = there-iff (fired-at run bs p) v .1 (rule .1 (subst numbered (sym (add-one (run .clock))) f)) in
-            (fires-at p h ∙ told .0, fired-value p h ∙ told .1),
+            (fires-at p ∙ told .0, fired-value p ∙ told .1),
       )
 
   step-follows : Follows run bs (step-of run bs)
-  unfolding round station-after paper.sent paper.kind sent-next kind-next setup-of
+  unfolding round-by-paper station-after paper.sent paper.kind sent-next kind-next setup-of
   step-follows =
       record {
         stations =
@@ -206,16 +218,36 @@ module _ (run : Run) (bs : List ℕ) (e : is-accepted (step-of run bs .reply) �
         clock = clock-next run bs ok;
         sound-again = sound-iff (step-of run bs .run) .1 (keeps-next run bs ok);
         fires = fires-iff-rule;
-        ho = λ p q hp hq. ap (λ (k : ℕ). k / 2 ^ q % 2) (ho-at p hp) ∙ mask-bit (run .setup .n) (heard.HO (heard-in (run .setup .n) bs p)) q hq;
+        unfired = λ p e. fired-value p ∙ nothing-there (fired-at run bs p) (sym (fires-at p) ∙ e);
+        ho = ho-bit;
         sho =
-            λ p q hp hq.
-            ap (λ (k : ℕ). k / 2 ^ q % 2) (sho-at p hp)
-            ∙ mask-bit (run .setup .n) (heard.SHO (heard-in (run .setup .n) bs p) (sent-next run)) q hq
+            λ p q.
+            sho-bit p q
             ∙ ap
             (λ (r : ℕ).
             one (heard.SHO (heard-in (run .setup .n) bs p) (λ (j : ℕ). rules.sends (rules.kind-of (paper-setup run .algorithm) r) (station run j)) q))
             (add-one (run .clock));
       }
+
+-- a refused step is the run and arrays of nothing
+step-leaves : (run : Run) (bs : List ℕ) → is-accepted (step-of run bs .reply) ≡ false → Leaves run (step-of run bs)
+unfolding step-of accepted
+step-leaves run bs = go (is-accepted (check-step run bs))
+  where
+    nothing : (r : Reply) → Leaves run (refused r run)
+    nothing r =
+        record {
+          same-run = refl;
+          fires = replicate-all stations false;
+          fired = replicate-all stations 0;
+          ho = replicate-all stations 0;
+          sho = replicate-all stations 0;
+        }
+
+    go : (b : Bool) → is-accepted (cond b (accepted run bs) (refused (check-step run bs) run) .reply) ≡ false
+        → Leaves run (cond b (accepted run bs) (refused (check-step run bs) run))
+    go true e = absurd (false≢true (sym e))
+    go false e = nothing (check-step run bs)
 
 -- demands 1 and 2, of the step
 pub demand-2 : Demand2 step-of
@@ -224,6 +256,6 @@ demand-2 =
     record {
       accepts = step-accepts;
       follows = step-follows;
-      leaves = refused-same;
+      leaves = step-leaves;
       says = says-check;
     }

@@ -1,13 +1,14 @@
 -- Demand 3: an opened run stands at its starts and keeps the rules, so its accepted rounds are a lawful run of the paper (Lawful), of which
--- the paper's safety is proved.
-use mathlib.Core.Path.{_≡_, refl, ap, sym, _∙_, subst}
-use mathlib.Core.Bool.{Bool, true, false, cond}
+-- the paper's safety is proved, and what is in hand is what the last of them left (Latest).
+use mathlib.Core.Path.{_≡_, ap, sym, _∙_, subst}
+use mathlib.Core.Bool.{false}
 use mathlib.Core.List.{List, [], _∷_}
-use Prim.Native.Nat.{ℕ, suc, _+_, _≤_, _<_}
+use Prim.Native.Nat.{ℕ, _<_}
 use native.Mathlib.Omega.{arith}
 use lib.ListN.{getD, getD-replicate}
 use Rattle.paper.specs.Stations.{All}
 use Rattle.paper.specs.Setup as setup
+use Rattle.paper.specs.Rules as rules
 use Rattle.paper.specs.Run as paper
 use Rattle.paper.specs.Safety as safety
 use Rattle.paper.proofs.Safety.{agreement, lock, integrity}
@@ -23,8 +24,10 @@ use Rattle.run.proofs.Sound.{setup-iff, sound-iff}
 use Rattle.run.proofs.Openings.{opened, opened-sound}
 use Rattle.hearing.specs.Survey.{station}
 use Rattle.judge.specs.Step.{paper-setup}
-use Rattle.consensus.specs.Offered.{accepted}
-use Rattle.consensus.specs.Demand3.{Demand3}
+use Rattle.consensus.specs.Offered.{Offer, accepted, run-after-all}
+use Rattle.consensus.specs.Demand3.{InHand, Demand3}
+use Rattle.consensus.proofs.Taken.{all-on, all-left}
+use Rattle.consensus.proofs.Latest.{lock-left, decided-left, kept-left}
 use Rattle.consensus.proofs.Lawful.{follows}
 
 -- rounds that follow from some states follow from the same states told otherwise
@@ -45,7 +48,7 @@ stands : (s : Setup) (d : ℕ) (estimates : List ℕ) (p : ℕ) → p < stations
 unfolding station run-from paper.opened
 stands s d estimates p h = rw (getD-replicate stations p false false h)
 
-module _ (s : Setup) (d : ℕ) (estimates : List ℕ) (keeps : Keeps (run-from s d estimates)) (offers : List (List ℕ)) where
+module _ (s : Setup) (d : ℕ) (estimates : List ℕ) (keeps : Keeps (run-from s d estimates)) (offers : List Offer) where
   abbrev run : Run
   run = run-from s d estimates
 
@@ -64,6 +67,36 @@ module _ (s : Setup) (d : ℕ) (estimates : List ℕ) (keeps : Keeps (run-from s
         safe = on .1;
       }
 
+  -- what holds after the last accepted round holds of the run in hand
+  in-hand : InHand run offers
+  unfolding run-from paper.Run paper.opened setup-of
+  in-hand =
+      let on = all-on offers run keeps in
+      let left = sym (all-left offers run) in
+      let S = paper-setup run in
+      let rounds = lawful .rounds in
+      let from = paper.opened (starts run) in
+      record {
+        sound-still = sound-iff (run-after-all run offers) .1 (on .keeps);
+        setup = on .setup;
+        default = on .default;
+        clock = omega (arith, on .clock);
+        last = all-left offers run;
+        locked =
+            λ t p v i h f.
+            subst (λ (x : paper.States). safety.Locked S x v) left
+            (lock-left S d 0 from (station run) ts rounds (lock S d (starts run) ts lawful) t p v i h f);
+        kept =
+            λ p v r h e.
+            kept-left S d 0 from (station run) ts rounds (kept S d (starts run) ts rounds) p v r h
+            (ap (λ (x : rules.Station). x .decision) (stands s d estimates p (omega (arith, keeps .setup .n-to))))
+            (ap (λ (x : paper.States). x p .decision) left ∙ e);
+        decides =
+            λ t p v i h f.
+            subst (λ (x : paper.States). ¬ (x p .decision ≡ rules.undecided)) left
+            (decided-left S d 0 from (station run) ts rounds (decides S d (starts run) ts rounds) t p v i h f);
+      }
+
   pub demand-3-of : Demand3 run offers
   demand-3-of =
       record {
@@ -72,10 +105,11 @@ module _ (s : Setup) (d : ℕ) (estimates : List ℕ) (keeps : Keeps (run-from s
         integrity = integrity (paper-setup run) (run .default) (starts run) ts lawful;
         kept = kept (paper-setup run) (run .default) (starts run) ts (lawful .rounds);
         decides = decides (paper-setup run) (run .default) (starts run) ts (lawful .rounds);
+        in-hand = in-hand;
       }
 
 -- demand 3: nothing is asked but that these bytes are accepted as an opening
-pub demand-3 : (bs : List ℕ) → check-opening bs ≡ Accepted → (offers : List (List ℕ)) → Demand3 (read-opening bs .run) offers
+pub demand-3 : (bs : List ℕ) → check-opening bs ≡ Accepted → (offers : List Offer) → Demand3 (read-opening bs .run) offers
 demand-3 bs ok offers =
     let at : read-opening bs .run ≡ run-from (setup-in bs) (default-in bs) (starts-in bs) = ap (λ (o : Opened). o .run) (opened bs ok) in
     let keeps : Keeps (read-opening bs .run) = sound-iff (read-opening bs .run) .0 (opened-sound bs ok) in

@@ -1,14 +1,14 @@
 -- None of the four empty judges meets demand 2: case 9's first round has to be accepted and to move the run, an empty part has to be
 -- refused, and the second round has to decide. The checker computes the checks and the paper's rule on the case's bytes.
 use mathlib.Core.Path.{_≡_, refl, ap, sym, _∙_}
-use mathlib.Core.Bool.{true, false, false≢true}
+use mathlib.Core.Bool.{true, false≢true}
 use mathlib.Core.List.{List, []}
 use Prim.Native.Nat.{ℕ, _<_}
 use native.Mathlib.Omega.{arith}
 use Rattle.paper.specs.Setup.{acceptable}
 use Rattle.paper.specs.Stations.{every, size}
 use Rattle.paper.specs.Heard.{AHO}
-use Rattle.paper.specs.Rules.{Station, Decision, undecided, decided, sends, kind-of, after}
+use Rattle.paper.specs.Rules.{Station, undecided, decided, sends, kind-of, after}
 use Rattle.run.specs.declared.Run.{Run}
 use Rattle.run.specs.declared.Reply.{Reply}
 use Rattle.run.specs.declared.Reply.the-variants.{Accepted}
@@ -22,7 +22,7 @@ use Rattle.hearing.specs.Survey.{station, sent-next}
 use Rattle.run.proofs.Sound.{sound-iff}
 use Rattle.judge.specs.Step.{check-step, step-of}
 use Rattle.judge.proofs.Steps.{passed}
-use Rattle.consensus.specs.Demand2.{Judge, round, Demand2}
+use Rattle.consensus.specs.Demand2.{Judge, round-by-paper, Demand2}
 use Rattle.consensus.specs.Empty.{refuses-all, says-one, unmoved, first-only, three, all-heard}
 use Rattle.consensus.proofs.Demand2.{demand-2}
 
@@ -61,8 +61,8 @@ unmoved-fails d =
     let still = d .follows (three 0 5 5 9) (all-heard 5 5 9) (said unmoved d (three 0 5 5 9) (all-heard 5 5 9) first-round) .clock in omega arith
 
 -- what the second round makes of station 0
-decides : round (three 1 5 5 5) (all-heard 5 5 5) .after 0 .decision ≡ decided 5 2
-unfolding round after three all-heard tabulate recordBytes digits recordAt recordFrom size heard-in kind-of number station setup-of
+decides : round-by-paper (three 1 5 5 5) (all-heard 5 5 5) .after 0 .decision ≡ decided 5 2
+unfolding round-by-paper after three all-heard tabulate recordBytes digits recordAt recordFrom size heard-in kind-of number station setup-of
 decides = refl
 
 -- and what the judge that only raises the clock leaves of it

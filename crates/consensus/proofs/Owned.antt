@@ -2,11 +2,11 @@
 -- from what the step, the survey and the play are.
 use mathlib.Core.Path.{_≡_, ap, sym, _∙_}
 use mathlib.Core.Bool.{true}
-use mathlib.Core.List.{List}
+use mathlib.Core.List.{List, [], _∷_}
 use Prim.Native.Nat.{ℕ, suc, _≤_, _<_}
 use native.Mathlib.Omega.{arith}
 use lib.Count.{ones}
-use lib.ListN.{getD}
+use lib.ListN.{length, getD, length-append}
 use Rattle.paper.specs.Stations.{size}
 use Rattle.paper.specs.Heard as heard
 use Rattle.paper.specs.Rules as rules
@@ -23,14 +23,16 @@ use Rattle.hearing.proofs.Masks.{ones-mask}
 use Rattle.judge.specs.declared.Played.{Played}
 use Rattle.judge.specs.Play.{play-of}
 use Rattle.judge.specs.Step.{paper-setup}
-use Rattle.consensus.specs.Demand2.{Judge, round, Demand2}
+use Rattle.consensus.specs.Demand2.{Judge, round-by-paper, Demand2}
+use Rattle.consensus.specs.Offered.{to-play, rounds-in, taken, accepted}
+use Rattle.consensus.proofs.Taken.{parts, play-rounds, taken-count}
 
 -- "two accepted rounds from one run that agree in row p give p the same estimate, vote and decision"
 pub own-row : (judge : Judge) → Demand2 judge → (run : Run) (bs bs′ : List ℕ) (p : ℕ) → p < run .setup .n
     → is-accepted (judge run bs .reply) ≡ true → is-accepted (judge run bs′ .reply) ≡ true
     → heard-in (run .setup .n) bs p ≡ heard-in (run .setup .n) bs′ p
     → station (judge run bs .run) p ≡ station (judge run bs′ .run) p
-unfolding round
+unfolding round-by-paper
 own-row judge d run bs bs′ p h e e′ same =
     d .follows run bs e .stations p h
     ∙ ap (λ (row : heard.Row). rules.after (paper-setup run) (run .default) (suc (run .clock)) (station run p) row) same
@@ -54,6 +56,9 @@ module _ (run : Run) (bs : List ℕ) (ok : check-reading run bs ≡ Accepted) (s
       (filled-below stations (run .setup .n) (λ q. mask (run .setup .n) (heard.SHO (heard-in (run .setup .n) bs q) (sent-next run))) 0 p 0 (omega arith) h)
       ∙ ones-mask (run .setup .n) (heard.SHO (heard-in (run .setup .n) bs p) (sent-next run)))
 
--- and a play has the count of the rounds that it accepts
-pub one-count : (run : Run) (bs : List ℕ) (a : Played) → a ≡ play-of run bs → a .rounds ≡ play-of run bs .rounds
-one-count run bs a e = ap (λ (x : Played). x .rounds) e
+-- and a play that meets its promise has the count of the rounds that are accepted of its part, and no other
+pub one-count : (run : Run) (bs : List ℕ) (a : Played) → a ≡ play-of run bs → a .rounds ≡ length (accepted run (to-play bs ∷ []))
+unfolding accepted rounds-in
+one-count run bs a e =
+    ap (λ (x : Played). x .rounds) e ∙ play-rounds run bs ∙ taken-count (parts run bs) run
+    ∙ omega (arith, length-append (taken run (parts run bs)) [])

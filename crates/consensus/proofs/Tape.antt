@@ -4,20 +4,18 @@ use mathlib.Core.Path.{_≡_, refl, ap₂}
 use mathlib.Core.Bool.{true}
 use mathlib.Core.List.{List, [], _∷_, _++_}
 use Prim.Native.Nat.{ℕ}
-use lib.Dec.{eqb, ltb}
 use lib.ListN.{length, length-replicate}
 use Rattle.run.specs.declared.Run.{Run}
-use Rattle.run.specs.declared.Reply.the-variants.{Accepted, Length, Full, Rules}
+use Rattle.run.specs.declared.Reply.the-variants.{Accepted}
 use Rattle.run.specs.Bytes.{IsBytes}
 use Rattle.run.specs.Opening.{check-opening, read-opening}
-use Rattle.run.specs.Reply.{is-accepted, or-refuse}
-use Rattle.run.specs.Run.{most-rounds, sound}
+use Rattle.run.specs.Reply.{is-accepted}
 use Rattle.run.proofs.Openings.{read-write}
 use Rattle.round.specs.Reading.{check-reading}
 use Rattle.round.proofs.Readings.{reading-accepted}
 use Rattle.round.proofs.Rounds.{read-written-into}
-use Rattle.judge.specs.Step.{check-step, step-of}
-use Rattle.judge.proofs.Steps.{passed, step-checked}
+use Rattle.judge.specs.Step.{step-of}
+use Rattle.judge.proofs.Steps.{passed}
 use Rattle.run.proofs.Sound.{sound-iff}
 use Rattle.consensus.specs.Tape.{Acceptable, blank-for, joined, rounds-again, tape-again}
 use Rattle.consensus.proofs.Demand2.{demand-2}

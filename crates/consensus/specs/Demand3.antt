@@ -1,22 +1,49 @@
--- Demand 3, about the judge itself: for any bytes that it accepts as an opening, and any list of byte strings then offered one after
--- another, of any length and content, refused ones among them.
+-- Demand 3, about `step-of` and `play-of`, which the promises of `step` and `play` cite: for any bytes that are accepted as an opening, and
+-- whatever is then offered one after another, of any length and content, refused ones among them.
 use mathlib.Core.Path.{_≡_}
+use mathlib.Core.Bool.{true}
 use mathlib.Core.List.{List}
-use Prim.Native.Nat.{ℕ}
-use lib.ListN.{getD}
-use Rattle.paper.specs.Safety.{Agreement, Lock, Integrity, Kept, Decides}
+use Prim.Native.Nat.{ℕ, _<_}
+use lib.ListN.{length, getD}
+use Rattle.paper.specs.Rules.{undecided, decided}
+use Rattle.paper.specs.Run.{Turn, FiresAt}
+use Rattle.paper.specs.Safety.{_among_, Locked, FirstFiring, Agreement, Lock, Integrity, Kept, Decides}
 use Rattle.run.specs.declared.Run.{Run}
+use Rattle.run.specs.Run.{sound}
+use Rattle.hearing.specs.Survey.{station}
 use Rattle.judge.specs.Step.{paper-setup}
-use Rattle.consensus.specs.Offered.{accepted}
+use Rattle.consensus.specs.Offered.{Offer, accepted, run-after-all, left-by}
+
+-- what is promised of the run in hand after all that was offered
+pub record InHand (run : Run) (offers : List Offer) : Type 0 where
+  -- it is sound and has the opened setup and default, and its clock is the number of the accepted rounds
+  pub sound-still : sound (run-after-all run offers) ≡ true
+  pub setup : run-after-all run offers .setup ≡ run .setup
+  pub default : run-after-all run offers .default ≡ run .default
+  pub clock : run-after-all run offers .clock ≡ length (accepted run offers)
+  -- each station holds what the last accepted round left of it, or what the opened run holds if none was accepted
+  pub last : station (run-after-all run offers) ≡ left-by (station run) (accepted run offers)
+  -- so what holds after every accepted round holds now: if the rule has fired for v, the stations are locked to v
+  pub locked : (t : Turn) (p v : ℕ) → t among accepted run offers → p < run .setup .n → FiresAt (paper-setup run) t p v
+      → Locked (paper-setup run) (station (run-after-all run offers)) v
+  -- the decision (v, r) of a station is that of the first round in which the rule fired at that station
+  pub kept : (p v r : ℕ) → p < run .setup .n → station (run-after-all run offers) p .decision ≡ decided v r
+      → (t : Turn) × FirstFiring (paper-setup run) (accepted run offers) p v t × (t .number ≡ r)
+  -- and a station at which the rule has fired is decided
+  pub decides : (t : Turn) (p v : ℕ) → t among accepted run offers → p < run .setup .n → FiresAt (paper-setup run) t p v
+      → ¬ (station (run-after-all run offers) p .decision ≡ undecided)
 
 -- what is promised of a run and of what is offered to it, through the rounds that it accepts
-pub record Demand3 (run : Run) (offers : List (List ℕ)) : Type 0 where
+pub record Demand3 (run : Run) (offers : List Offer) : Type 0 where
   -- wherever the decide rule fires, at one station twice or at two stations, it names one value
   pub one-value : Agreement (paper-setup run) (accepted run offers)
-  -- from the end of the first such round on, more than E - alpha stations hold that value under A, and all of them under U
+  -- from the end of any round in which the rule fires onward (so from the first), more than E - alpha stations have that value as their
+  -- estimate under A, all under U
   pub locked : Lock (paper-setup run) (accepted run offers)
-  -- if all stations start with one value, no other is ever decided
+  -- if all stations start with one value, the rule never fires for another
   pub integrity : Integrity (paper-setup run) (λ p. getD (run .estimates) p 0) (accepted run offers)
-  -- every decision that the run keeps is the first firing's, with its round
+  -- after every accepted round, a station's decision is that of the first round in which the rule fired at that station, with its number
   pub kept : Kept (paper-setup run) (accepted run offers)
+  -- and from the end of a round in which the rule fires at a station onward, that station is decided
   pub decides : Decides (paper-setup run) (accepted run offers)
+  pub in-hand : InHand run offers

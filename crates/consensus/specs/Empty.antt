@@ -9,7 +9,6 @@ use Rattle.run.specs.declared.Run.{Run}
 use Rattle.run.specs.Reply.{is-accepted}
 use Rattle.run.specs.Filled.{filled}
 use Rattle.run.specs.Run.{stations}
-use Rattle.judge.specs.declared.Stepped.{Stepped}
 use Rattle.judge.specs.Step.{refused, step-of}
 use Rattle.consensus.specs.Sheet.{A, bytes-from, bytes, all-hear, values}
 use Rattle.consensus.specs.Demand2.{Judge}

@@ -40,8 +40,8 @@ unfoldable pub Agreement : Setup → List Turn → Type 0
 Agreement S ts =
     (t u : Turn) (p q v w : ℕ) → t among ts → u among ts → p < S .n → q < S .n → FiresAt S t p v → FiresAt S u q w → v ≡ w
 
--- from the end of a round in which it fires on, the stations are locked to that value (the induction in Lemma 5's proof; Lemma 9 and the
--- induction in Proposition 5's proof)
+-- from the end of any round in which it fires, and ever after, the stations are locked to that value (the induction in Lemma 5's proof; Lemma 9
+-- and the induction in Proposition 5's proof)
 unfoldable pub Lock : Setup → List Turn → Type 0
 unfolding Locked
 Lock S ts =
