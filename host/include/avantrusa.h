@@ -143,12 +143,12 @@ static inline size_t avantrusa_round_length(size_t n)
  */
 
 /* Opens a run: reads the opening and writes the image of the run at its starts. Answers 0, 1, 2, 3,
- * 4 or 9. The image has avantrusa_image_length(n) bytes, which may hold anything before. */
+ * 4 or 9, or as said above of null and overlap. The image has avantrusa_image_length(n) bytes, which may hold anything before. */
 uint64_t avantrusa_open(const uint8_t *opening, size_t opening_len, uint8_t *image,
                         size_t image_len);
 
 /* Offers one round to the run of an image, and rewrites the image if the round is accepted. Answers
- * 0 to 8 or 10. */
+ * 0 to 8 or 10, or as said above of null and overlap. */
 uint64_t avantrusa_step(uint8_t *image, size_t image_len, const uint8_t *round, size_t round_len);
 
 /* The judge's own entries, as the archive has them: the same buffers and answers, and no test.

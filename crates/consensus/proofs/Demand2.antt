@@ -35,18 +35,9 @@ use Rattle.round.proofs.Turns.{turn-accepted}
 use Rattle.judge.specs.declared.Stepped.{Stepped}
 use Rattle.judge.specs.Step.{paper-setup, safe, check-altered, check-safe, check-step, accepted, refused, step-of, station-after, fired-at}
 use Rattle.judge.proofs.Stations.{station-next}
-use Rattle.judge.proofs.Steps.{sets-on, cells-on, length-on, room-on, Passed, passed, step-checked, step-accepted, setup-same, default-same, clock-next, keeps-next}
+use Rattle.judge.proofs.Steps.{sets-on, cells-on, length-on, room-on, Passed, passed, reply-is, step-checked, step-accepted, setup-same, default-same, clock-next, keeps-next}
 use Rattle.consensus.specs.Demand2.{round-by-paper, WellFormed, Follows, Leaves, Demand2}
 use Rattle.consensus.proofs.Outside.{filled-all, replicate-all, no-receiver, no-sender, lost-HO, lost-SHO, mask-bits, mask-zero, lost-fired}
-
--- the step says what its checks say
-says-check : (run : Run) (bs : List ℕ) → step-of run bs .reply ≡ check-step run bs
-unfolding step-of accepted
-says-check run bs = go (is-accepted (check-step run bs)) refl
-  where
-    go : (b : Bool) → is-accepted (check-step run bs) ≡ b → cond b (accepted run bs) (refused (check-step run bs) run) .reply ≡ check-step run bs
-    go true q = sym (Rattle.run.proofs.Replies.accepted-is (check-step run bs) q)
-    go false q = refl
 
 module _ (run : Run) (bs : List ℕ) where
   abbrev n : ℕ
@@ -132,7 +123,7 @@ module _ (run : Run) (bs : List ℕ) where
   step-accepts : sound run ≡ true → run .clock < most-rounds → (is-accepted (step-of run bs .reply) ≡ true) ↔ Wanted
   step-accepts ok room = (
     λ e. taken-apart (step-checked run bs e),
-    λ want. ap is-accepted (says-check run bs ∙ put-together ok room want),
+    λ want. ap is-accepted (reply-is run bs ∙ put-together ok room want),
   )
 
 there-iff : (o : Option ℕ) (v : ℕ) → ((is-there o ≡ true) × (value-or-0 o ≡ v)) ↔ (o ≡ some v)
@@ -257,5 +248,5 @@ demand-2 =
       accepts = step-accepts;
       follows = step-follows;
       leaves = step-leaves;
-      says = says-check;
+      says = reply-is;
     }

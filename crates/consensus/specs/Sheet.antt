@@ -34,9 +34,10 @@ pub data Offer : Type 0 where
   accepted : Rows → List ℕ → List Mark → List Mark → Offer
   refused : Rows → ℕ → ℕ → Offer
 
--- a setup, and the number of the reply to an opening with it; or a run: setup, default, starts, the rounds offered in a row, and what the
--- stations have decided at the end, the values and then their rounds
+-- bytes written out, and the bytes that they ought to be; a setup, and the number of the reply to an opening with it; or a run: setup, default,
+-- starts, the rounds offered in a row, and what the stations have decided at the end, the values and then their rounds
 pub data Case : Type 0 where
+  spelled : List ℕ → List ℕ → Case
   opens : Setup → ℕ → Case
   runs : Setup → ℕ → List ℕ → List Offer → List Mark → List ℕ → Case
 
@@ -85,6 +86,7 @@ plays run (offer ∷ rest) decisions rounds =
 
 unfoldable pub passes : Case → Bool
 unfolding opening read-opening plays
+passes (spelled bs cs) = eqb (length bs) (length cs) && holds bs cs
 passes (opens setup number) = says (read-opening (opening setup 0 []) .reply) number 0
 passes (runs setup default starts offers decisions rounds) =
     let o = read-opening (opening setup default starts) in says (o .reply) 0 0 && plays (o .run) offers decisions rounds
@@ -114,6 +116,26 @@ values = map Value
 -- but receiver p has this cell of sender q
 abbrev pub but : ℕ → ℕ → Cell → Rows → Rows
 but p q c rows = set rows p (set (getD rows p []) q c)
+
+-- the opening of case 9 byte by byte, and a round of two: station 0 hears 5 and 258, station 1 hears "?" and loses the other
+abbrev spellings : List Case
+spellings =
+    spelled
+    (1 ∷ 1 ∷ 3 ∷ 2 ∷ 2 ∷ 0 ∷ 0 ∷ 0
+    ∷ 2 ∷ 0 ∷ 0 ∷ 0 ∷ 0 ∷ 0 ∷ 0 ∷ 0
+    ∷ 3 ∷ 0 ∷ 0 ∷ 0 ∷ 5 ∷ 0 ∷ 0 ∷ 0
+    ∷ 3 ∷ 1 ∷ 0 ∷ 0 ∷ 5 ∷ 0 ∷ 0 ∷ 0
+    ∷ 3 ∷ 2 ∷ 0 ∷ 0 ∷ 9 ∷ 0 ∷ 0 ∷ 0
+    ∷ [])
+    (opening (A 3 2 2 0) 0 (5 ∷ 5 ∷ 9 ∷ []))
+    ∷ spelled
+    (4 ∷ 0 ∷ 0 ∷ 0 ∷ 5 ∷ 0 ∷ 0 ∷ 0
+    ∷ 4 ∷ 0 ∷ 1 ∷ 0 ∷ 2 ∷ 1 ∷ 0 ∷ 0
+    ∷ 5 ∷ 1 ∷ 0 ∷ 0 ∷ 0 ∷ 0 ∷ 0 ∷ 0
+    ∷ 6 ∷ 1 ∷ 1 ∷ 0 ∷ 0 ∷ 0 ∷ 0 ∷ 0
+    ∷ [])
+    (bytes ((Value 5 ∷ Value 258 ∷ []) ∷ (Query ∷ Lost ∷ []) ∷ []))
+    ∷ []
 
 -- 1 to 8, with A(1,0,0,0); then setups on either side of one inequality
 abbrev setups : List Case
@@ -221,9 +243,38 @@ few-hold =
     ∷ [])
     (some 4 ∷ all 6 none) (1 ∷ all 6 0)
 
+-- the most frequent value is taken, though a smaller one was heard
+abbrev most-frequent : Case
+most-frequent =
+    runs (A 3 2 2 0) 0 (9 ∷ 9 ∷ 5 ∷ [])
+    (accepted (all-hear (values (9 ∷ 9 ∷ 5 ∷ []))) (all 3 9) (all 3 none) (all 3 none) ∷ []) (all 3 none) (all 3 0)
+
+-- five start with 3, and those who lose one of these do not vote. Two votes are alpha + 1: all take 3. Four are not more than E, and five are: then
+-- all decide in round 2; but not where E is 5
+abbrev some-vote : Setup → Rows → ℕ → ℕ → List Mark → List ℕ → Case
+some-vote setup first cast queries firings rounds =
+    runs setup 0 (3 ∷ 3 ∷ 3 ∷ 3 ∷ 3 ∷ 1 ∷ [])
+    (accepted first (3 ∷ 3 ∷ 3 ∷ 3 ∷ 3 ∷ 1 ∷ []) (all cast (some 3) ++ all queries none) (all 6 none)
+    ∷ accepted (all-hear (all cast (Value 3) ++ all queries Query)) (all 6 3) (all 6 none) firings
+    ∷ [])
+    firings rounds
+
+abbrev five-3 : Rows
+five-3 = all-hear (values (3 ∷ 3 ∷ 3 ∷ 3 ∷ 3 ∷ 1 ∷ []))
+
+abbrev one-loses : Rows
+one-loses = but 5 0 Lost five-3
+
+abbrev two-lose : Rows
+two-lose = but 4 0 Lost one-loses
+
+abbrev four-lose : Rows
+four-lose = but 2 0 Lost (but 3 0 Lost two-lose)
+
 unfoldable pub sheet : List Case
 sheet =
-    setups
+    spellings
+    ++ setups
     ++ (case-9
     ∷ case-10 5 9 7
     ∷ case-10 9 5 7
@@ -237,4 +288,9 @@ sheet =
     ∷ case-15
     ∷ decides-unheld
     ∷ few-hold
+    ∷ most-frequent
+    ∷ some-vote (U 6 4 4 1) four-lose 2 4 (all 6 none) (all 6 0)
+    ∷ some-vote (U 6 4 4 1) two-lose 4 2 (all 6 none) (all 6 0)
+    ∷ some-vote (U 6 4 4 1) one-loses 5 1 (all 6 (some 3)) (all 6 2)
+    ∷ some-vote (U 6 4 5 1) one-loses 5 1 (all 6 none) (all 6 0)
     ∷ [])

@@ -103,7 +103,7 @@ pub fn sets_of(cells: [Slot; Run::STATIONS], sent: Sent, n: u8) -> Sets
     Sets { ho, sho }
 }
 
-// Whom a receiver heard otherwise than was to be sent: SHO is a part of HO, so its mask is what is left of HO's.
+// Whom a receiver heard otherwise than was to be sent: HO's mask less SHO's, for SHO is a part of HO in all sets that are made here.
 pub fn altered(sets: Sets) -> u32
     ensures { λ r. ⌜ r ≡ sets .ho - sets .sho ⌝ }
 {

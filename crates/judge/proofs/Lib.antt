@@ -8,3 +8,4 @@ pub mod Cuts
 pub mod Plays
 pub mod After
 pub mod Steps
+pub mod Machines

@@ -96,6 +96,15 @@ passed run bs e =
       next = ap (λ (s : Stepped). s .run) (step-accepted run bs checked);
     }
 
+-- a step replies what its checks say
+pub reply-is : (run : Run) (bs : List ℕ) → step-of run bs .reply ≡ check-step run bs
+unfolding step-of accepted
+reply-is run bs = go (is-accepted (check-step run bs)) refl
+  where
+    go : (b : Bool) → is-accepted (check-step run bs) ≡ b → cond b (accepted run bs) (refused (check-step run bs) run) .reply ≡ check-step run bs
+    go true q = sym (accepted-is (check-step run bs) q)
+    go false q = refl
+
 -- what a step leaves: the same setup and default, and one round more if it was accepted
 module _ (run : Run) (bs : List ℕ) where
   pub refused-same : is-accepted (step-of run bs .reply) ≡ false → step-of run bs .run ≡ run

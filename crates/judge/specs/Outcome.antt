@@ -10,7 +10,7 @@ use Rattle.paper.specs.Setup as setup
 use Rattle.paper.specs.Rules as rules
 use Rattle.run.specs.declared.Setup.{Setup}
 use Rattle.run.specs.declared.Station.{Station}
-use Rattle.run.specs.Run.{is-U, algorithm-of, setup-of}
+use Rattle.run.specs.Run.{stations, is-U, algorithm-of, setup-of}
 use Rattle.hearing.specs.declared.Tally.{Tally}
 use Rattle.hearing.specs.Masks.{mask}
 use Rattle.hearing.specs.Tally.{is-there, value-or-0}
@@ -44,7 +44,7 @@ kind-by s votes = cond votes rules.vote (cond (is-U s) rules.value rules.update)
 -- set of those heard; and 0 beside "?" and undecided
 pub record Ready (s : Setup) (number : ℕ) (votes : Bool) (x : Station) (row : heard.Row) (ho : ℕ) : Type 0 where
   pub kind : rules.kind-of (algorithm-of s) number ≡ kind-by s votes
-  pub few : s .n ≤ 32
+  pub few : s .n ≤ stations
   pub E-half : s .n ≤ 2 * s .e
   pub T-half : is-U s ≡ true → s .n ≤ 2 * s .t
   pub heard : ho ≡ mask (s .n) (heard.HO row)

@@ -2,7 +2,7 @@
 ghost use mathlib.Core.Path.{_≡_};
 ghost use mathlib.Core.Bool.{cond};
 ghost use Prim.Native.Nat.{_≤_, _<_};
-ghost use Rattle.run.specs.Run.{stations};
+ghost use Rattle.run.specs.Run.{stations, most-rounds};
 ghost use Rattle.run.specs.declared.Reply.the-variants.{Accepted};
 ghost use Rattle.round.specs.Reading.{votes-next};
 ghost use Rattle.judge.specs.Step.{refused, step-of};
@@ -215,7 +215,7 @@ fn refused(reply: Reply, run: Run) -> Stepped
 
 // The run after a round that passed every check: each station's outcome, from what the run holds of it and what its row tells.
 fn advance(run: Run, voting: bool, counted: Counted) -> Stepped
-    requires { ⌜ (run .setup .n ≤ stations) × (run .clock < 4096) ⌝ }
+    requires { ⌜ (run .setup .n ≤ stations) × (run .clock < most-rounds) ⌝ }
     ensures { λ r. ⌜ r ≡ advanced run voting counted ⌝ }
 {
     let setup = run.setup;

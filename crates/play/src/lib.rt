@@ -2,6 +2,7 @@
 ghost use mathlib.Core.Path.{_≡_};
 ghost use Prim.Native.Nat.{_+_, _≤_, min};
 ghost use Rattle.run.specs.Keeps.{Keeps};
+ghost use Rattle.run.specs.Run.{most-rounds};
 ghost use Rattle.round.specs.Reading.{round-length};
 ghost use Rattle.judge.specs.Play.{cut, ended, take-rounds, play-of};
 ghost use Rattle.judge.proofs.Plays.{more};
@@ -43,7 +44,7 @@ fn ended(run: Run, reply: Reply) -> Played
 
 // The answer where some rounds were accepted before.
 fn after(before: u32, a: Played) -> Played
-    requires { ⌜ a .rounds + before ≤ 4096 ⌝ }
+    requires { ⌜ a .rounds + before ≤ most-rounds ⌝ }
     ensures { λ r. ⌜ r ≡ more before a ⌝ }
 {
     let last = a.run;

@@ -19,7 +19,7 @@ use Rattle.image.proofs.Images.{put-whole}
 use Rattle.image.proofs.Loaded.{form-checked}
 use Rattle.judge.specs.declared.Stepped.{Stepped}
 use Rattle.judge.specs.Step.{check-step, run-after, accepted, refused, step-of}
-use Rattle.judge.proofs.Steps.{step-accepted}
+use Rattle.judge.proofs.Steps.{reply-is, step-accepted}
 use Rattle.switch.specs.Switch.{opened-run, loaded-run, open-reply, open-image, step-reply, step-image}
 
 -- ---- the definitions' own text, to rewrite with while what it cites stays shut
@@ -49,14 +49,6 @@ opened-reply opening = ap (λ (o : Opened). o .reply) (read-opening-is opening)
 pub loaded-reply : (bytes : List ℕ) → loaded bytes .reply ≡ check-image bytes
 unfolding loaded
 loaded-reply bytes = refl
-
-pub stepped-reply : (run : Run) (round : List ℕ) → step-of run round .reply ≡ check-step run round
-unfolding step-of accepted
-stepped-reply run round = go (is-accepted (check-step run round)) refl
-  where
-    go : (b : Bool) → is-accepted (check-step run round) ≡ b → cond b (accepted run round) (refused (check-step run round) run) .reply ≡ check-step run round
-    go true q = sym (accepted-is (check-step run round) q)
-    go false q = refl
 
 stepped-run : (run : Run) (round : List ℕ) → check-step run round ≡ Accepted → step-of run round .run ≡ run-after run round
 unfolding accepted

@@ -1,4 +1,3 @@
 -- Laws about the definitions of specs/.
 pub mod Calls
-pub mod Next
 pub mod Switch

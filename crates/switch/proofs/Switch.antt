@@ -21,10 +21,10 @@ use Rattle.image.proofs.Loaded.{loaded-machine}
 use Rattle.image.proofs.Saved.{image-again}
 use Rattle.judge.specs.Step.{check-step, run-after}
 use Rattle.judge.proofs.After.{run-keeps}
-use Rattle.judge.proofs.Steps.{passed}
+use Rattle.judge.proofs.Steps.{passed, reply-is}
 use Rattle.switch.specs.Switch.{answer-of, opened-run, loaded-run, open-reply, open-image, step-reply, step-image}
-use Rattle.switch.proofs.Calls.{open-reply-is, open-image-is, step-reply-is, step-image-is, loaded-in, stepped-reply}
-use Rattle.switch.proofs.Next.{machine-after}
+use Rattle.switch.proofs.Calls.{open-reply-is, open-image-is, step-reply-is, step-image-is, loaded-in}
+use Rattle.judge.proofs.Machines.{machine-after}
 
 -- ---- one answer, and one content of the bytes, for what was lent
 pub open-unique : (opening buffer : List ℕ) (r r′ : ℕ) (out out′ : List ℕ)
@@ -70,7 +70,7 @@ pub stepped-loads : (bytes round : List ℕ) → IsBytes bytes → IsBytes round
 stepped-loads bytes round in-bytes in-round e =
     let run : Run = loaded-run bytes in
     let (good, taken) = then-accepted (check-image bytes) (check-step run round) (rw step-reply-is at e) in
-    let ok = passed run round (ap is-accepted (stepped-reply run round ∙ taken)) in
+    let ok = passed run round (ap is-accepted (reply-is run round ∙ taken)) in
     let machine : Machine run = subst Machine (sym (loaded-in bytes good)) (loaded-machine bytes good in-bytes) in
     rw (step-image-is, e)
     (image-again (run-after run round) (sound-iff (run-after run round) .1 (run-keeps run round (ok .keeps) (ok .room)))

@@ -9,7 +9,8 @@ use Rattle.image.specs.Image.{check-image}
 use Rattle.judge.specs.declared.Stepped.{Stepped}
 use Rattle.judge.specs.Step.{check-step, step-of}
 use Rattle.switch.specs.Switch.{answer-of, loaded-run}
-use Rattle.switch.proofs.Calls.{loaded-reply, stepped-reply, image-refused, round-refused, round-taken}
+use Rattle.judge.proofs.Steps.{reply-is}
+use Rattle.switch.proofs.Calls.{loaded-reply, image-refused, round-refused, round-taken}
 use Rattle.switch.proofs.judge_step.Statement.{statement}
 use Rattle.switch.proofs.judge_step.Tie as tie
 
@@ -29,7 +30,7 @@ stepped c = rw (c .before .before .before .before .load .ensures) at (c .step .e
 judged : (c : tie.After-step)
     → c .step .result .reply
     ≡ check-step (loaded-run (c .before .before .before .before .before .before .before .before .args .image .now)) (c .before .before .before .before .before .before .before .before .args .round .now)
-judged c = ap (λ (s : Stepped). s .reply) (stepped c) ∙ stepped-reply _ _
+judged c = ap (λ (s : Stepped). s .reply) (stepped c) ∙ reply-is _ _
 
 returns : tie.Need-returns
 returns c =
