@@ -35,6 +35,14 @@ fn bit(q: usize, there: bool) -> u32
     (there as u32) << q
 }
 
+// What a station adds to a mask in which its bit is this power of two.
+fn weight(power: u64, there: bool) -> u32
+    requires { ⌜ power < 2 ^ 32 ⌝ }
+    ensures { λ r. ⌜ r ≡ one there * power ⌝ }
+{
+    if there { power as u32 } else { 0 }
+}
+
 // Whether the cell holds something.
 fn arrived(c: Cell) -> bool
     ensures { λ r. ⌜ r ≡ arrived (paper-cell c) ⌝ }
@@ -92,12 +100,14 @@ pub fn sets_of(cells: [Slot; Run::STATIONS], sent: Sent, n: u8) -> Sets
     let last = places(n);
     let mut ho: u32 = 0;
     let mut sho: u32 = 0;
+    let mut power: u64 = 1; // the bit of sender q, doubled at each turn
     let mut q: usize = 0;
     while q < last {
         let slot = cells[q];
         let c = slot.cell;
-        ho += bit(q, arrived(c));
-        sho += bit(q, holds(c, given[q], values[q]));
+        ho += weight(power, arrived(c));
+        sho += weight(power, holds(c, given[q], values[q]));
+        power *= 2;
         q += 1;
     }
     Sets { ho, sho }

@@ -24,7 +24,7 @@ use Rattle.judge.specs.declared.Stepped.{Stepped}
 use Rattle.judge.specs.Step.{paper-setup, station-after, fired-at, run-after, accepted}
 use Rattle.judge.specs.Outcome.{paper-station, outcome-of, Ready, told}
 use Rattle.judge.specs.Rows.{no-value, rows-counted}
-use Rattle.judge.specs.Taking.{told-at, advanced}
+use Rattle.judge.specs.Taking.{told-at, begun, advanced}
 use Rattle.judge.proofs.Countings.{counted-ho, counted-sho, counted-tally}
 use Rattle.judge.proofs.Outcomes.{outcome-told}
 use Rattle.judge.proofs.Checks.{ho-at}
@@ -40,9 +40,9 @@ module _ (run : Run) (votes : Bool) (c : Counted) where
   unfolding filled told
   next-to k =
       record {
-        setup = idle .setup;
-        default = 0;
-        clock = 0;
+        setup = run .setup;
+        default = run .default;
+        clock = run .clock + 1;
         estimates = column (λ o. o .station .estimate) k 0;
         voted = column (λ o. o .station .voted) k false;
         votes = column (λ o. o .station .vote) k 0;
@@ -66,8 +66,8 @@ module _ (run : Run) (votes : Bool) (c : Counted) where
       → set (column field k d) k (field o) ≡ column field (k + 1) d
   column-more field d k l h = rw h (filled-more stations k (λ p. field (told-at run votes c p)) d l)
 
-  pub next-none : idle ≡ next-to 0
-  unfolding idle next-to
+  pub next-none : begun run (run .clock + 1) ≡ next-to 0
+  unfolding begun idle next-to
   next-none =
       rw (
         ← column-none (λ o. o .station .estimate) 0,
@@ -125,18 +125,7 @@ module _ (run : Run) (votes : Bool) (c : Counted) where
       → _≡_ {A = Stepped}
       (record {
         reply = Accepted;
-        run =
-            record {
-              setup = run .setup;
-              default = run .default;
-              clock = run .clock + 1;
-              estimates = a .estimates;
-              voted = a .voted;
-              votes = a .votes;
-              decided = a .decided;
-              decisions = a .decisions;
-              rounds = a .rounds;
-            };
+        run = a;
         fires = g;
         fired = h;
         ho = c .ho;

@@ -12,7 +12,7 @@ use Rattle.run.specs.declared.Reply.the-variants.{Accepted, Length, Altered, Un
 use Rattle.run.specs.declared.Run.{Run}
 use Rattle.run.specs.declared.Setup.{Setup}
 use Rattle.run.specs.Reply.{_then_, or-refuse}
-use Rattle.run.specs.Run.{stations, most-rounds, is-U, setup-of, station-at, sound}
+use Rattle.run.specs.Run.{stations, most-rounds, idle, is-U, setup-of, station-at, sound}
 use Rattle.run.specs.Filled.{filled}
 use Rattle.round.specs.Reading.{in-turn, round-length}
 use Rattle.judge.specs.declared.Counted.{Counted}
@@ -53,7 +53,23 @@ abbrev pub told-at : Run → Bool → Counted → ℕ → Outcome
 told-at run votes c p =
     told (run .setup) (run .default) (run .clock + 1) votes (station-at run p) (getD (c .ho) p 0) (getD (c .tallies) p no-value)
 
--- the run after the round
+-- the run after the round, before its stations are told
+unfoldable pub begun : Run → ℕ → Run
+unfolding idle
+begun run number =
+    record {
+      setup = run .setup;
+      default = run .default;
+      clock = number;
+      estimates = idle .estimates;
+      voted = idle .voted;
+      votes = idle .votes;
+      decided = idle .decided;
+      decisions = idle .decisions;
+      rounds = idle .rounds;
+    }
+
+-- and with them
 unfoldable pub advanced : Run → Bool → Counted → Stepped
 unfolding filled told
 advanced run votes c =

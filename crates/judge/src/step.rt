@@ -6,7 +6,7 @@ ghost use Rattle.run.specs.Run.{stations, most-rounds};
 ghost use Rattle.run.specs.declared.Reply.the-variants.{Accepted};
 ghost use Rattle.round.specs.Reading.{votes-next};
 ghost use Rattle.judge.specs.Step.{refused, step-of};
-ghost use Rattle.judge.specs.Taking.{check-room, few-in, enough-in, check-sets, advanced};
+ghost use Rattle.judge.specs.Taking.{check-room, few-in, enough-in, check-sets, begun, advanced};
 ghost use Rattle.judge.specs.Outcome.{moves, next-estimate, casts, with-vote, deciding, rule-fires, with-decision, told};
 use super::Counted;
 use super::Outcome;
@@ -213,6 +213,18 @@ fn refused(reply: Reply, run: Run) -> Stepped
     }
 }
 
+// The run after a round, before its stations are told: its setup and default, the next clock, and nothing held.
+fn begun(run: Run, number: u32) -> Run
+    ensures { λ r. ⌜ r ≡ begun run number ⌝ }
+{
+    let mut next = Run::idle();
+    let setup = run.setup;
+    next.setup = setup;
+    next.default = run.default;
+    next.clock = number;
+    next
+}
+
 // The run after a round that passed every check: each station's outcome, from what the run holds of it and what its row tells.
 fn advance(run: Run, voting: bool, counted: Counted) -> Stepped
     requires { ⌜ (run .setup .n ≤ stations) × (run .clock < most-rounds) ⌝ }
@@ -221,7 +233,7 @@ fn advance(run: Run, voting: bool, counted: Counted) -> Stepped
     let setup = run.setup;
     let last = setup.n as usize;
     let number = run.clock + 1;
-    let mut next = Run::idle();
+    let mut next = begun(run, number);
     let mut fires = [false; Run::STATIONS];
     let mut fired: [u32; Run::STATIONS] = [0; Run::STATIONS];
     let mut p: usize = 0;
@@ -247,9 +259,6 @@ fn advance(run: Run, voting: bool, counted: Counted) -> Stepped
         fired[p] = o.fired;
         p += 1;
     }
-    next.setup = setup;
-    next.default = run.default;
-    next.clock = number;
     let ho = counted.ho;
     let sho = counted.sho;
     Stepped {

@@ -42,7 +42,7 @@ advance-spec =
     (λ c. search needs)
     (λ c. omega arith)
     (λ c κs. search needs)
-    (λ c. (omega arith, c .idle .ensures ∙ next-none _ _ _, fires-none _ _ _, fired-none _ _ _))
+    (λ c. (omega arith, c .begun .ensures ∙ next-none _ _ _, fires-none _ _ _, fired-none _ _ _))
     (λ c. search needs)
     (λ c. search needs)
     (λ c. search needs)
