@@ -1,4 +1,4 @@
-/* The checked entries: the rule for buffers is in avantrusa.h. */
+/* The checked entries: rules 15.10 and 15.11 of docs/RULES.md, told in avantrusa.h. */
 #include "avantrusa.h"
 
 static uint64_t refused(uint32_t number, uint32_t place)

@@ -60,7 +60,7 @@ static uint64_t answer_of(uint32_t number, uint32_t place)
     return (uint64_t)place << 32 | number;
 }
 
-/* Buffers of case 9: A(3,2,2,0), starts 5 5 9, and a round in which all is heard. */
+/* Buffers of tapes/case-09: its opening, and its first round, in which all is heard. */
 
 static void put(uint8_t *records, size_t k, uint8_t kind, uint8_t first, uint8_t second,
                 uint8_t value)

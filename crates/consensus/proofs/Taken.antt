@@ -1,5 +1,6 @@
--- What is offered is its rounds, one after another up to the first that is refused: a bad run refuses each round as it refuses a part, and a
--- step is a part of one round. What the rounds leave, and how many they are, by induction on them.
+-- What is offered is its rounds, one after another up to the first that is refused: a bad run refuses each round as it
+-- refuses a part, and a step is a part of one round. What the rounds leave, and how many they are, by induction on
+-- them.
 use mathlib.Core.Path.{_≡_, refl, ap, sym, _∙_, subst}
 use mathlib.Core.Bool.{Bool, true, false, cond, false≢true}
 use mathlib.Core.List.{List, [], _∷_, _++_}
@@ -14,11 +15,21 @@ use Rattle.run.specs.Reply.{is-accepted}
 use Rattle.run.specs.Run.{sound}
 use Rattle.run.proofs.Sound.{sound-iff}
 use Rattle.round.specs.Reading.{round-length}
-use Rattle.hearing.specs.Survey.{station}
+use Rattle.round.specs.Bridge.{station}
 use Rattle.judge.specs.Step.{step-of}
-use Rattle.judge.specs.Play.{cut, ended, one-more, take-rounds, play-of}
 use Rattle.judge.proofs.Steps.{passed, refused-same, setup-same, default-same, clock-next, keeps-next}
-use Rattle.consensus.specs.Offered.{Offer, to-step, to-play, run-then, rounds-in, taken, accepted, run-after-all, left-by}
+use Rattle.play.specs.Play.{cut, ended, more, take-rounds, play-of}
+use Rattle.consensus.specs.Offered.{
+  Offer,
+  to-step,
+  to-play,
+  run-then,
+  rounds-in,
+  taken,
+  accepted,
+  run-after-all,
+  left-by,
+}
 
 -- ---- a bad run takes nothing
 bad-refuses : (run : Run) (bs : List ℕ) → sound run ≡ false → is-accepted (step-of run bs .reply) ≡ false
@@ -48,7 +59,8 @@ module _ (run : Run) (bs : List ℕ) where
   unfolding play-of
   play-run = go (sound run) refl
     where
-      go : (b : Bool) → sound run ≡ b → cond b (take-rounds run parts) (ended run (Rules 0) 0) .run ≡ take-rounds run parts .run
+      go : (b : Bool) → sound run ≡ b → cond b (take-rounds run parts) (ended run (Rules 0)) .run
+          ≡ take-rounds run parts .run
       go true e = refl
       go false e = sym (bad-run run e parts)
 
@@ -56,7 +68,8 @@ module _ (run : Run) (bs : List ℕ) where
   unfolding play-of
   play-rounds = go (sound run) refl
     where
-      go : (b : Bool) → sound run ≡ b → cond b (take-rounds run parts) (ended run (Rules 0) 0) .rounds ≡ take-rounds run parts .rounds
+      go : (b : Bool) → sound run ≡ b → cond b (take-rounds run parts) (ended run (Rules 0)) .rounds
+          ≡ take-rounds run parts .rounds
       go true e = refl
       go false e = sym (bad-count run e parts)
 
@@ -66,7 +79,8 @@ module _ (run : Run) (bs : List ℕ) where
   step-run = go (is-accepted (step-of run bs .reply)) refl
     where
       go : (b : Bool) → is-accepted (step-of run bs .reply) ≡ b
-          → step-of run bs .run ≡ cond b (one-more (take-rounds (step-of run bs .run) [])) (ended run (step-of run bs .reply) 0) .run
+          → step-of run bs .run ≡ cond b (more 1 (take-rounds (step-of run bs .run) []))
+          (ended run (step-of run bs .reply)) .run
       go true e = refl
       go false e = refused-same run bs e
 
@@ -77,13 +91,15 @@ then-taken run (to-play bs) = play-run run bs
 
 -- ---- what the rounds leave
 -- each station as the last accepted one left it
-pub taken-left : (rs : List (List ℕ)) (run : Run) → station (take-rounds run rs .run) ≡ left-by (station run) (taken run rs)
+pub taken-left : (rs : List (List ℕ)) (run : Run) → station (take-rounds run rs .run)
+    ≡ left-by (station run) (taken run rs)
 unfolding take-rounds taken left-by
 taken-left [] run = refl
 taken-left (r ∷ rs) run = go (is-accepted (step-of run r .reply)) refl (taken-left rs (step-of run r .run))
   where
     go : (b : Bool) → is-accepted (step-of run r .reply) ≡ b
-        → station (take-rounds (step-of run r .run) rs .run) ≡ left-by (station (step-of run r .run)) (taken (step-of run r .run) rs)
+        → station (take-rounds (step-of run r .run) rs .run)
+        ≡ left-by (station (step-of run r .run)) (taken (step-of run r .run) rs)
         → station (take-rounds run (r ∷ rs) .run) ≡ left-by (station run) (taken run (r ∷ rs))
     go true e below = rw e below
     go false e below = rw e
@@ -115,7 +131,8 @@ taken-on (r ∷ rs) run keeps = go (is-accepted (step-of run r .reply)) refl (λ
     next : Run
     next = step-of run r .run
 
-    go : (b : Bool) → is-accepted (step-of run r .reply) ≡ b → (Keeps next → On next (length (taken next rs)) (take-rounds next rs .run))
+    go : (b : Bool) → is-accepted (step-of run r .reply) ≡ b
+        → (Keeps next → On next (length (taken next rs)) (take-rounds next rs .run))
         → On run (length (taken run (r ∷ rs))) (take-rounds run (r ∷ rs) .run)
     go true e below =
         let ok = passed run r e in
@@ -132,9 +149,11 @@ taken-on (r ∷ rs) run keeps = go (is-accepted (step-of run r .reply)) refl (λ
 -- ---- what all that is offered leaves
 pub then-on : (run : Run) (o : Offer) → Keeps run → On run (length (taken run (rounds-in run o))) (run-then run o)
 then-on run o keeps =
-    subst (On run (length (taken run (rounds-in run o)))) (sym (then-taken run o)) (taken-on (rounds-in run o) run keeps)
+    subst (On run (length (taken run (rounds-in run o)))) (sym (then-taken run o))
+    (taken-on (rounds-in run o) run keeps)
 
-pub all-on : (offers : List Offer) (run : Run) → Keeps run → On run (length (accepted run offers)) (run-after-all run offers)
+pub all-on : (offers : List Offer) (run : Run) → Keeps run
+    → On run (length (accepted run offers)) (run-after-all run offers)
 unfolding accepted run-after-all
 all-on [] run keeps = record { keeps = keeps; setup = refl; default = refl; clock = omega arith }
 all-on (o ∷ rest) run keeps =
@@ -145,7 +164,13 @@ all-on (o ∷ rest) run keeps =
       setup = on .setup ∙ first .setup;
       default = on .default ∙ first .default;
       clock =
-          omega (arith, on .clock, first .clock, length-append (taken run (rounds-in run o)) (accepted (run-then run o) rest));
+          omega (
+            arith,
+            on .clock,
+            first .clock,
+            length-append (taken run (rounds-in run o))
+                (accepted (run-then run o) rest),
+          );
     }
 
 left-join : (ts us : List Turn) (s : States) → left-by s (ts ++ us) ≡ left-by (left-by s ts) us
@@ -153,7 +178,8 @@ unfolding left-by
 left-join [] us s = refl
 left-join (t ∷ ts) us s = left-join ts us (t .after)
 
-pub all-left : (offers : List Offer) (run : Run) → station (run-after-all run offers) ≡ left-by (station run) (accepted run offers)
+pub all-left : (offers : List Offer) (run : Run) → station (run-after-all run offers)
+    ≡ left-by (station run) (accepted run offers)
 unfolding accepted run-after-all left-by
 all-left [] run = refl
 all-left (o ∷ rest) run =

@@ -1,5 +1,6 @@
--- Demand 3, about `step-of` and `play-of`, which the promises of `step` and `play` cite: for any bytes that are accepted as an opening, and
--- whatever is then offered one after another, of any length and content, refused ones among them.
+-- Demand 3, about `step-of` and `play-of`, which the promises of `step` and `play` cite: for any bytes that are
+-- accepted as an opening, and whatever is then offered one after another, of any length and content, refused ones among
+-- them.
 use mathlib.Core.Path.{_≡_}
 use mathlib.Core.Bool.{true}
 use mathlib.Core.List.{List}
@@ -10,8 +11,7 @@ use Rattle.paper.specs.Run.{Turn, FiresAt}
 use Rattle.paper.specs.Safety.{_among_, Locked, FirstFiring, Agreement, Lock, Integrity, Kept, Decides}
 use Rattle.run.specs.declared.Run.{Run}
 use Rattle.run.specs.Run.{sound}
-use Rattle.hearing.specs.Survey.{station}
-use Rattle.judge.specs.Step.{paper-setup}
+use Rattle.round.specs.Bridge.{station, paper-setup}
 use Rattle.consensus.specs.Offered.{Offer, accepted, run-after-all, left-by}
 
 -- what is promised of the run in hand after all that was offered
@@ -35,14 +35,15 @@ pub record InHand (run : Run) (offers : List Offer) : Type 0 where
 
 -- what is promised of a run and of what is offered to it, through the rounds that it accepts
 pub record Demand3 (run : Run) (offers : List Offer) : Type 0 where
-  -- wherever the decide rule fires, at one station twice or at two stations, it names one value
+  -- rule 16.2: all firings, whether at one station or at several, name one value
   pub one-value : Agreement (paper-setup run) (accepted run offers)
-  -- from the end of any round in which the rule fires onward (so from the first), more than E - alpha stations have that value as their
-  -- estimate under A, all under U
+  -- rule 16.3: from the end of any round in which the rule fires onward (so from the first), more than E - alpha
+  -- stations have that value as their estimate under A, all under U
   pub locked : Lock (paper-setup run) (accepted run offers)
-  -- if all stations start with one value, the rule never fires for another
+  -- rule 16.4: where every start is v, the rule never fires for another
   pub integrity : Integrity (paper-setup run) (λ p. getD (run .estimates) p 0) (accepted run offers)
-  -- after every accepted round, a station's decision is that of the first round in which the rule fired at that station, with its number
+  -- rules 16.5 and 16.6: after every accepted round, a station's decision is that of the first round in which the rule
+  -- fired there, with its number
   pub kept : Kept (paper-setup run) (accepted run offers)
   -- and from the end of a round in which the rule fires at a station onward, that station is decided
   pub decides : Decides (paper-setup run) (accepted run offers)

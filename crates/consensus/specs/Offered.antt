@@ -1,16 +1,16 @@
--- What is offered to a run, one thing after another, refused ones among them: demand 3's "any rounds offered in a row". A round may be
--- offered to `step`, and a part of a tape to `play`. The accepted rounds are rounds of the paper, each with the states before and after it as
--- the judge's run holds them.
+-- What is offered to a run, one thing after another, refused ones among them: demand 3's "any rounds offered in a row".
+-- A round may be offered to `step`, and a part of a tape to `play`. The accepted rounds are rounds of the paper, each
+-- with the states before and after it as the judge's run holds them.
 use Prim.Native.Nat.{ℕ, suc}
 use mathlib.Core.Bool.{cond}
 use mathlib.Core.List.{List, [], _∷_, _++_}
 use Rattle.paper.specs.Run.{States, Turn}
 use Rattle.run.specs.declared.Run.{Run}
 use Rattle.run.specs.Reply.{is-accepted}
-use Rattle.round.specs.Reading.{round-length, heard-in}
-use Rattle.hearing.specs.Survey.{station}
+use Rattle.round.specs.Reading.{round-length}
+use Rattle.round.specs.Bridge.{heard-in, station}
 use Rattle.judge.specs.Step.{step-of}
-use Rattle.judge.specs.Play.{cut, play-of}
+use Rattle.play.specs.Play.{cut, play-of}
 
 -- the bytes of a round, to be stepped, or of a part of a tape, to be played
 pub data Offer : Type 0 where
@@ -29,8 +29,8 @@ unfolding cut
 rounds-in run (to-step bs) = bs ∷ []
 rounds-in run (to-play bs) = cut (round-length (run .setup .n)) bs
 
--- the round that these bytes spell, taken by this run: after it stands what the judge's run then holds (`round-by-paper` in Demand2.antt has
--- what the paper makes of each station)
+-- the round that these bytes spell, taken by this run: after it stands what the judge's run then holds
+-- (`round-by-paper` in Demand2.antt has what the paper makes of each station)
 unfoldable pub round-by-judge : Run → List ℕ → Turn
 unfolding station heard-in step-of
 round-by-judge run bs =
@@ -45,7 +45,8 @@ round-by-judge run bs =
 unfoldable pub taken : Run → List (List ℕ) → List Turn
 unfolding round-by-judge step-of
 taken run [] = []
-taken run (bs ∷ rest) = cond (is-accepted (step-of run bs .reply)) (round-by-judge run bs ∷ taken (step-of run bs .run) rest) []
+taken run (bs ∷ rest) =
+    cond (is-accepted (step-of run bs .reply)) (round-by-judge run bs ∷ taken (step-of run bs .run) rest) []
 
 -- the rounds that are accepted of all that is offered, in order
 unfoldable pub accepted : Run → List Offer → List Turn

@@ -1,5 +1,6 @@
--- A whole tape, read and written again: demand 2's "Reading an acceptable tape and writing it again gives the same bytes". The opening is
--- read to a run and written from it; each round is read with the run that stands there, and its matrix written with that run.
+-- A whole tape, read and written again (rule 13.12, demand 2: it is the same bytes). The opening is written from the
+-- setup, default and starts read in it; each round is read with the run that stands there, and its matrix written with
+-- that run.
 use Prim.Native.Nat.{ℕ}
 use mathlib.Core.Path.{_≡_}
 use mathlib.Core.Bool.{true}
@@ -10,14 +11,15 @@ use Rattle.run.specs.Bytes.{IsBytes}
 use Rattle.run.specs.Opening.{setup-in, default-in, starts-in, read-opening, write-opening}
 use Rattle.run.specs.Reply.{is-accepted}
 use Rattle.round.specs.Reading.{read-round}
-use Rattle.round.specs.Writing.{write-round}
+use Rattle.writing.specs.Writing.{write-round}
 use Rattle.judge.specs.Step.{step-of}
 
 -- each of the rounds is bytes, and is accepted by the run that the ones before it leave
-unfoldable pub Acceptable : Run → List (List ℕ) → Type 0
+unfoldable pub AcceptedInTurn : Run → List (List ℕ) → Type 0
 unfolding step-of
-Acceptable run [] = Unit {0}
-Acceptable run (r ∷ rs) = IsBytes r × (is-accepted (step-of run r .reply) ≡ true) × Acceptable (step-of run r .run) rs
+AcceptedInTurn run [] = Unit {0}
+AcceptedInTurn run (r ∷ rs) =
+    IsBytes r × (is-accepted (step-of run r .reply) ≡ true) × AcceptedInTurn (step-of run r .run) rs
 
 -- a buffer for so many bytes
 abbrev pub blank-for : List ℕ → List ℕ
@@ -31,7 +33,8 @@ joined (r ∷ rs) = r ++ joined rs
 unfoldable pub rounds-again : Run → List (List ℕ) → List ℕ
 unfolding step-of read-round write-round
 rounds-again run [] = []
-rounds-again run (r ∷ rs) = write-round run (read-round run r .matrix) (blank-for r) ++ rounds-again (step-of run r .run) rs
+rounds-again run (r ∷ rs) =
+    write-round run (read-round run r .matrix) (blank-for r) ++ rounds-again (step-of run r .run) rs
 
 unfoldable pub tape-again : List ℕ → List (List ℕ) → List ℕ
 unfolding read-opening write-opening rounds-again

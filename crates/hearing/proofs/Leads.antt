@@ -1,30 +1,25 @@
--- What `smallest` finds, told by the counts alone. A value is received exactly if its count is not 0, so which value leads and which is the
--- smallest to reach k depend on how often each came; and one more value changes both only at itself.
+-- What `smallest` finds, told by the counts alone. A value is received exactly if its count is not 0, so which value
+-- leads depends on how often each came, as does which is the smallest that passes (the paper's proofs/Passing.antt);
+-- and one more value changes both only at itself.
 use mathlib.Core.Path.{_≡_, refl, sym, _∙_}
-use mathlib.Core.Bool.{Bool}
+use mathlib.Core.Bool.{Bool, true, false}
 use mathlib.Core.Option.{Option, none, some, Option·none-ne-some}
 use mathlib.Core.Logic.{_↔_, _≢_}
 use Prim.Native.Nat.{ℕ, _≤_, _<_}
 use native.Mathlib.Nat.{le-refl}
 use native.Mathlib.Decide.{decLe, ℕ-discrete}
 use native.Mathlib.Omega.{arith}
-use lib.Dec.{leb}
-use borrow.Author.Tests.{leb-true, le-leb}
 use Rattle.paper.specs.Heard.{Row}
 use Rattle.paper.specs.Rules.{times, smallest, most-often}
-use Rattle.paper.proofs.Smallest.{Least, smallest-some, smallest-none, smallest-is}
+use Rattle.paper.proofs.Smallest.{Least, smallest-some, smallest-is}
 use Rattle.paper.proofs.MostOften.{Received, came, most-often-iff, most-often-all, most-often-found}
+use Rattle.paper.proofs.Passing.{lowest-found}
 
 -- f w is how often w came
 pub record Leads (f : ℕ → ℕ) (v : ℕ) : Type 0 where
   pub received : 0 < f v
   pub oftenest : (w : ℕ) → f w ≤ f v
   pub first : (w : ℕ) → f w ≡ f v → v ≤ w
-
-pub record Reaches (f : ℕ → ℕ) (k v : ℕ) : Type 0 where
-  pub received : 0 < f v
-  pub enough : k ≤ f v
-  pub first : (w : ℕ) → 0 < f w → k ≤ f w → v ≤ w
 
 module _ (n : ℕ) (row : Row) where
   pub leads-iff : (v : ℕ) → (smallest n row (most-often n row) ≡ some v) ↔ Leads (times n row) v
@@ -40,7 +35,8 @@ module _ (n : ℕ) (row : Row) where
             first =
                 λ w t.
                 let s : Received n row w = came n row w .0 (omega arith) in
-                l .least (s .0) w (s .1) (s .2) (most-often-iff n row w .1 (λ u h. omega (arith, most-often-all n row v (l .passes) u)));
+                l .least (s .0) w (s .1) (s .2) (most-often-iff n row w .1
+                (λ u h. omega (arith, most-often-all n row v (l .passes) u)));
           }
 
       from : Leads (times n row) v → smallest n row (most-often n row) ≡ some v
@@ -71,50 +67,23 @@ module _ (n : ℕ) (row : Row) where
       go none e = refl
       go (some v) e = absurd (omega (arith, empty v, leads-iff v .0 e .received))
 
-  module _ (k : ℕ) where
-    abbrev reaching : ℕ → Bool
-    reaching u = leb k (times n row u)
+-- a test that a value never received fails
+abbrev pub Positive : (ℕ → Bool) → Type 0
+Positive pass = (m : ℕ) → pass m ≡ true → 0 < m
 
-    pub reaches-iff : (v : ℕ) → (smallest n row (λ u. leb k (times n row u)) ≡ some v) ↔ Reaches (times n row) k v
-    reaches-iff v = (to, from)
-      where
-        to : smallest n row reaching ≡ some v → Reaches (times n row) k v
-        to e =
-            let l : Least n row reaching v = smallest-some n row reaching v e in
-            record {
-              received = came n row v .1 (l .from, l .below, l .heard-there);
-              enough = leb-true k (times n row v) (l .passes);
-              first = λ w h t. let s : Received n row w = came n row w .0 h in l .least (s .0) w (s .1) (s .2) (le-leb k (times n row w) t);
-            }
-
-        from : Reaches (times n row) k v → smallest n row reaching ≡ some v
-        from l =
-            let r : Received n row v = came n row v .0 (l .received) in
-            smallest-is n row reaching v
-            (record {
-              from = r .0;
-              below = r .1;
-              heard-there = r .2;
-              passes = le-leb k (times n row v) (l .enough);
-              least = λ q w h e t. l .first w (came n row w .1 (q, h, e)) (leb-true k (times n row w) t);
-            })
-
-    pub reaches-none : smallest n row (λ u. leb k (times n row u)) ≡ none → (w : ℕ) → 0 < times n row w → k ≤ times n row w → ⊥
-    reaches-none e w h t =
-        let s : Received n row w = came n row w .0 h in
-        smallest-none n row reaching e (s .0) w (s .1) (s .2) (le-leb k (times n row w) t)
-
-    pub none-reaches : ((w : ℕ) → 0 < times n row w → k ≤ times n row w → ⊥) → smallest n row (λ u. leb k (times n row u)) ≡ none
-    none-reaches few = go (smallest n row reaching) refl
-      where
-        go : (a : Option ℕ) → smallest n row reaching ≡ a → a ≡ none
-        go none e = refl
-        go (some v) e = let r = reaches-iff v .0 e in absurd (few v (r .received) (r .enough))
+-- where there is no smallest that passes, none passes
+pub none-passed : (n : ℕ) (row : Row) (pass : ℕ → Bool) → Positive pass
+    → smallest n row (λ u. pass (times n row u)) ≡ none → (w : ℕ) → pass (times n row w) ≡ false
+none-passed n row pass positive e w = go (pass (times n row w)) refl
+  where
+    go : (b : Bool) → pass (times n row w) ≡ b → b ≡ false
+    go true h = let (v, f) = lowest-found n row pass positive w h in absurd (Option·none-ne-some v (sym e ∙ f))
+    go false h = refl
 
 -- f before the value v was counted, g after it
 module _ (f g : ℕ → ℕ) (v : ℕ) (new : f v ≡ 0) (there : 0 < g v) (other : (w : ℕ) → w ≢ v → g w ≡ f w) where
   -- what holds of v's new count, and of each count before, holds of each count after
-  each : (P : ℕ → ℕ → Type 0) → P v (g v) → ((w : ℕ) → P w (f w)) → (w : ℕ) → P w (g w)
+  pub each : (P : ℕ → ℕ → Type 0) → P v (g v) → ((w : ℕ) → P w (f w)) → (w : ℕ) → P w (g w)
   each P at-v before w = go (ℕ-discrete w v)
     where
       go : Dec (w ≡ v) → P w (g w)
@@ -130,7 +99,8 @@ module _ (f g : ℕ → ℕ) (v : ℕ) (new : f v ≡ 0) (there : 0 < g v) (othe
         first = each (λ w m. m ≡ g v → v ≤ w) (λ e. le-refl v) least;
       }
 
-  stays : (u : ℕ) → 0 < f u → g u ≡ f u
+  -- one that came before came as often after
+  pub stays : (u : ℕ) → 0 < f u → g u ≡ f u
   stays u h = other u (λ e. let z : f u ≡ 0 = rw e new in omega arith)
 
   -- where it did not, the one that led still leads
@@ -142,20 +112,3 @@ module _ (f g : ℕ → ℕ) (v : ℕ) (new : f v ≡ 0) (there : 0 < g v) (othe
         oftenest = each (λ w m. m ≤ g u) (omega arith) (λ w. omega (arith, l .oftenest w));
         first = each (λ w m. m ≡ g u → u ≤ w) (λ e. least (e ∙ same)) (λ w e. l .first w (e ∙ same));
       }
-
-  module _ (k : ℕ) where
-    pub new-reaches : k ≤ g v → ((w : ℕ) → 0 < f w → k ≤ f w → v ≤ w) → Reaches g k v
-    new-reaches enough least =
-        record { received = there; enough = enough; first = each (λ w m. 0 < m → k ≤ m → v ≤ w) (λ h t. le-refl v) least }
-
-    pub old-reaches : (u : ℕ) → Reaches f k u → (k ≤ g v → u ≤ v) → Reaches g k u
-    old-reaches u r least =
-        let same : g u ≡ f u = stays u (r .received) in
-        record {
-          received = omega (arith, r .received);
-          enough = omega (arith, r .enough);
-          first = each (λ w m. 0 < m → k ≤ m → u ≤ w) (λ h t. least t) (r .first);
-        }
-
-    pub none-still : ((w : ℕ) → 0 < f w → k ≤ f w → ⊥) → g v < k → (w : ℕ) → 0 < g w → k ≤ g w → ⊥
-    none-still few less = each (λ w m. 0 < m → k ≤ m → ⊥) (λ h t. omega arith) few

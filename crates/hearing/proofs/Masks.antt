@@ -1,16 +1,19 @@
--- Masks and sets, once, over the number of stations: a mask is the sum of its stations' powers of two, so it can be taken apart at its
--- lowest and at its highest station, and each law follows by induction on one of the two.
+-- Masks and sets, once, over the number of stations: a mask is the sum of its stations' powers of two, so it can be
+-- taken apart at its lowest and at its highest station, and each law follows by induction on one of the two.
 use mathlib.Core.Path.{_≡_, refl, sym, ap, ap₂, _∙_, subst}
 use mathlib.Core.Bool.{Bool, true, false, not, _&&_, false≢true}
-use mathlib.Core.Logic.{_⊎_, inl, inr}
-use Prim.Native.Nat.{ℕ, zero, suc, _+_, _*_, _/_, _%_, _^_, _≤_, _<_}
-use native.Mathlib.Nat.{le-refl, lt-of-lt-of-le, eq-zero-or-pos, add-comm, pow-suc, div-one, zero-mul, one-mul, mul-one, mul-comm, mul-left-comm}
-use native.Mathlib.Numerals.{add-one}
+use mathlib.Core.Logic.{_⊎_, inl, inr, ⊎-elim}
+use Prim.Native.Nat.{ℕ, zero, suc, _+_, _-_, _*_, _/_, _%_, _^_, _≤_, _<_, min}
+use native.Mathlib.Nat.{le-refl, lt-of-lt-of-le, eq-or-lt-of-le, eq-zero-or-pos, div-eq-of-lt, add-comm, pow-suc}
+use native.Mathlib.Nat.{div-one, zero-mul, one-mul, mul-one, mul-comm, mul-left-comm}
 use native.Mathlib.Omega.{arith}
+use lib.Bits.{bitAnd, and-step}
 use lib.Count.{ones, ones-cat, trailingZeros, under}
+use lib.Dec.{eqb}
 use lib.Pow.{shr-shr, pow-mono}
 use Rattle.paper.specs.Stations.{Stations, _∈_, _∖_, one, size, All}
-use Rattle.hearing.specs.Masks.{mask}
+use Rattle.run.specs.Run.{stations}
+use Rattle.hearing.specs.Masks.{mask, in-mask, mask-without}
 
 double : (n : ℕ) → 2 ^ suc n ≡ 2 * 2 ^ n
 double n = pow-suc 2 n ∙ mul-comm (2 ^ n) 2
@@ -37,15 +40,6 @@ pub mask-lt : (n : ℕ) (X : Stations) → mask n X < 2 ^ n
 unfolding mask
 mask-lt zero X = le-refl 1
 mask-lt (suc n) X = omega (arith, mask-lt n X, weight (X n) n, double n)
-
--- a loop that has added q stations adds the next, and the sum fits
-pub mask-more : (q : ℕ) (X : Stations) → mask q X + one (X q) * 2 ^ q ≡ mask (q + 1) X
-unfolding mask
-mask-more q X = rw (add-one q)
-
-pub mask-fits : (w q : ℕ) (X : Stations) → q < w → mask q X + one (X q) * 2 ^ q < 2 ^ w
-unfolding mask
-mask-fits w q X h = lt-of-lt-of-le (mask-lt (suc q) X) (pow-mono h)
 
 -- the same sets have the same mask
 pub mask-cong : (n : ℕ) (X Y : Stations) → All n (λ q. X q ≡ Y q) → mask n X ≡ mask n Y
@@ -106,13 +100,88 @@ pub mask-bit : (n : ℕ) (X : Stations) (q : ℕ) → q < n → mask n X / 2 ^ q
 mask-bit zero X q h = absurd (omega arith)
 mask-bit (suc n) X zero h = ap (λ (k : ℕ). k % 2) (div-one (mask (suc n) X)) ∙ low n X
 mask-bit (suc n) X (suc q) h =
-    ap (λ (k : ℕ). mask (suc n) X / 2 ^ k % 2) (omega arith) ∙ ap (λ (k : ℕ). k % 2) (sym (shr-shr (mask (suc n) X) 1 q))
+    ap (λ (k : ℕ). mask (suc n) X / 2 ^ k % 2) (omega arith)
+    ∙ ap (λ (k : ℕ). k % 2) (sym (shr-shr (mask (suc n) X) 1 q))
     ∙ ap (λ (k : ℕ). k / 2 ^ q % 2) (half n X) ∙ mask-bit n (λ j. X (suc j)) q (omega arith)
 
 -- so a mask tells its set
 pub mask-inj : (n : ℕ) (X Y : Stations) → mask n X ≡ mask n Y → All n (λ q. X q ≡ Y q)
 mask-inj n X Y e q h = one-inj (X q) (Y q) (sym (mask-bit n X q h) ∙ ap (λ (k : ℕ). k / 2 ^ q % 2) e ∙ mask-bit n Y q h)
 
+-- ---- the set of a mask
+in-mask-one : (m q : ℕ) → one (in-mask m q) ≡ m / 2 ^ q % 2
+unfolding in-mask one
+in-mask-one m q = bit-one (m / 2 ^ q % 2) (omega arith)
+  where
+    bit-one : (x : ℕ) → x < 2 → one (eqb x 1) ≡ x
+    bit-one zero l = refl
+    bit-one (suc zero) l = refl
+    bit-one (suc (suc x)) l = absurd (omega arith)
+
+-- it is the set that the mask was made of
+in-mask-of : (n : ℕ) (X : Stations) (q : ℕ) → q < n → in-mask (mask n X) q ≡ X q
+in-mask-of n X q h = one-inj (in-mask (mask n X) q) (X q) (in-mask-one (mask n X) q ∙ mask-bit n X q h)
+
+in-mask-past : (n : ℕ) (X : Stations) (q : ℕ) → n ≤ q → in-mask (mask n X) q ≡ false
+unfolding one
+in-mask-past n X q h =
+    let none : mask n X / 2 ^ q ≡ 0 = div-eq-of-lt (lt-of-lt-of-le (mask-lt n X) (pow-mono h)) in
+    one-inj (in-mask (mask n X) q) false (in-mask-one (mask n X) q ∙ ap (λ (k : ℕ). k % 2) none)
+
+in-mask-half : (m q : ℕ) → in-mask m (suc q) ≡ in-mask (m / 2) q
+unfolding in-mask
+in-mask-half m q =
+    let more : suc q ≡ 1 + q = omega arith in
+    ap (λ (k : ℕ). eqb (m / 2 ^ k % 2) 1) more ∙ ap (λ (k : ℕ). eqb (k % 2) 1) (sym (shr-shr m 1 q))
+
+-- a set with no station from n up has the same mask in more places
+mask-wider : (n w : ℕ) (X : Stations) → n ≤ w → ((q : ℕ) → n ≤ q → X q ≡ false) → mask w X ≡ mask n X
+unfolding mask one
+mask-wider n zero X h past = let e : 0 ≡ n = omega arith in ap (λ (k : ℕ). mask k X) e
+mask-wider n (suc w) X h past =
+    ⊎-elim
+    (λ e. ap (λ (k : ℕ). mask k X) (sym e))
+    (λ l.
+    let none : one (X w) * 2 ^ w ≡ 0 * 2 ^ w = ap (λ (b : Bool). one b * 2 ^ w) (past w (omega arith)) in
+    omega (arith, zero-mul (2 ^ w), mask-wider n w X (omega arith) past))
+    (eq-or-lt-of-le h)
+
+-- a mask is what it has in common with another and what it has without it
+apart : (w a b : ℕ) → a < 2 ^ w → a ≡ bitAnd a b + mask w (in-mask a ∖ in-mask b)
+unfolding mask one
+apart zero a b h = let none : a ≡ 0 = omega arith in rw none
+apart (suc w) a b h =
+    omega (
+      arith,
+      and-step a b,
+      mask-low w (in-mask a ∖ in-mask b),
+      mask-cong w (λ q. (in-mask a ∖ in-mask b) (suc q)) (in-mask (a / 2) ∖ in-mask (b / 2))
+          (λ q l. rw (in-mask-half a q, in-mask-half b q)),
+      apart w (a / 2) (b / 2) (omega (arith, double w)),
+      digit (in-mask a 0) (in-mask b 0) (a % 2) (b % 2) (lowest a) (lowest b),
+    )
+  where
+    lowest : (m : ℕ) → one (in-mask m 0) ≡ m % 2
+    lowest m = in-mask-one m 0 ∙ ap (λ (k : ℕ). k % 2) (div-one m)
+
+    digit : (s t : Bool) (x y : ℕ) → one s ≡ x → one t ≡ y → x ≡ min x y + one (s && not t)
+    digit true true x y e f = omega arith
+    digit true false x y e f = omega arith
+    digit false true x y e f = omega arith
+    digit false false x y e f = omega arith
+
+pub without-is : (a b : ℕ) → a < 2 ^ stations → a - bitAnd a b ≡ mask-without a b
+unfolding mask-without
+without-is a b h = omega (arith, apart stations a b h)
+
+-- that of two sets' masks is the mask of their difference
+pub without-of : (n : ℕ) (X Y : Stations) → n ≤ stations → mask-without (mask n X) (mask n Y) ≡ mask n (X ∖ Y)
+unfolding mask-without
+without-of n X Y h =
+    mask-wider n stations (in-mask (mask n X) ∖ in-mask (mask n Y)) h (λ q past. rw (in-mask-past n X q past))
+    ∙ mask-cong n (in-mask (mask n X) ∖ in-mask (mask n Y)) (X ∖ Y) (λ q l. rw (in-mask-of n X q l, in-mask-of n Y q l))
+
+-- ---- empty masks
 -- the mask of a set with no station is 0, and no other
 pub mask-empty : (n : ℕ) (X : Stations) → mask n X ≡ 0 → All n (λ q. X q ≡ false)
 mask-empty n X e = mask-inj n X (λ q. false) (e ∙ sym (mask-none n))
@@ -138,12 +207,14 @@ unfolding mask one
 mask-lowest zero k X h pos = absurd (omega arith)
 mask-lowest (suc n) zero X h pos = absurd (omega arith)
 mask-lowest (suc n) (suc k) X h pos =
-    subst (Lowest (suc n) X) (sym (trailing n k X)) (go (X 0) refl (λ more. mask-lowest n k (λ q. X (suc q)) (omega arith) more))
+    subst (Lowest (suc n) X) (sym (trailing n k X))
+    (go (X 0) refl (λ more. mask-lowest n k (λ q. X (suc q)) (omega arith) more))
   where
     rest : ℕ
     rest = trailingZeros k (mask n (λ q. X (suc q)))
 
-    go : (b : Bool) → X 0 ≡ b → (0 < mask n (λ q. X (suc q)) → Lowest n (λ q. X (suc q)) rest) → Lowest (suc n) X (under (one b) rest)
+    go : (b : Bool) → X 0 ≡ b → (0 < mask n (λ q. X (suc q)) → Lowest n (λ q. X (suc q)) rest)
+        → Lowest (suc n) X (under (one b) rest)
     go true e below = (omega arith, e, λ i l. absurd (omega arith))
     go false e below =
         let none-low : one (X 0) ≡ 0 = ap one e in

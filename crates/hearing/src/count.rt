@@ -1,13 +1,18 @@
-// How often values came: a row is counted value by value, so that the work goes with the number of different values (document 01,
-// "Algorithm A", "Algorithm U").
+// How often values came: a row is counted value by value, so that the work goes with the number of different values
+// (rules 7.10, 8.2 and 9.6).
 ghost use mathlib.Core.Path.{_≡_};
 ghost use Prim.Native.Nat.{min};
+ghost use Rattle.paper.specs.Setup as setup;
+ghost use Rattle.limits.specs.Setup.{setup-of};
 ghost use Rattle.run.specs.Run.{stations};
-ghost use Rattle.round.specs.Cells.{paper-cell};
-ghost use Rattle.hearing.specs.Survey.{row-of};
-ghost use Rattle.hearing.specs.Tally.{tally, outdoes, with-most, undercuts, with-least, value-of};
+ghost use Rattle.round.specs.Bridge.{paper-cell};
+ghost use Rattle.hearing.specs.Surveying.{row-of};
+ghost use Rattle.hearing.specs.Tally.{tally};
+ghost use Rattle.hearing.specs.Counting.{outdoes, with-most, undercuts, with-least, value-of};
 use super::Tally;
 use super::heard;
+use limits::Setup;
+use limits::guard;
 use round::Cell;
 use round::Slot;
 use run::Run;
@@ -47,17 +52,17 @@ fn with_most(t: Tally, v: u32, set: u32) -> Tally
     }
 }
 
-// Whether v, with these senders, came at least k times and is smaller than any so far that did.
-fn undercuts(t: Tally, v: u32, set: u32, k: u32) -> bool
-    ensures { λ r. ⌜ r ≡ undercuts t v set k ⌝ }
+// Whether v, with these senders, came at least alpha + 1 times and is smaller than any so far that did.
+fn undercuts(s: Setup, t: Tally, v: u32, set: u32) -> bool
+    ensures { λ r. ⌜ r ≡ undercuts t v set (setup.vouched (setup-of s)) ⌝ }
 {
-    k <= u32::count_ones(set) && (!t.found || v < t.least)
+    guard::vouched(s, set) && (!t.found || v < t.least)
 }
 
-fn with_least(t: Tally, v: u32, set: u32, k: u32) -> Tally
-    ensures { λ r. ⌜ r ≡ with-least t v set k ⌝ }
+fn with_least(s: Setup, t: Tally, v: u32, set: u32) -> Tally
+    ensures { λ r. ⌜ r ≡ with-least t v set (setup.vouched (setup-of s)) ⌝ }
 {
-    if undercuts(t, v, set, k) {
+    if undercuts(s, t, v, set) {
         Tally {
             value: t.value,
             senders: t.senders,
@@ -69,11 +74,12 @@ fn with_least(t: Tally, v: u32, set: u32, k: u32) -> Tally
     }
 }
 
-// The count of a row of n senders, with the smallest value that came at least k times: one turn for each different value, that of the
-// lowest sender not counted yet.
-pub fn tally(cells: [Slot; Run::STATIONS], n: u8, k: u32) -> Tally
-    ensures { λ r. ⌜ r ≡ tally (min n stations) (row-of cells) k ⌝ }
+// The count of a row of the setup's n senders, with the smallest value that came at least alpha + 1 times: one turn for
+// each different value, that of the lowest sender not counted yet.
+pub fn tally(cells: [Slot; Run::STATIONS], s: Setup) -> Tally
+    ensures { λ r. ⌜ r ≡ tally (min (s .n) stations) (row-of cells) (setup.vouched (setup-of s)) ⌝ }
 {
+    let n = s.n;
     let mut t = Tally {
         value: 0,
         senders: 0,
@@ -89,7 +95,7 @@ pub fn tally(cells: [Slot; Run::STATIONS], n: u8, k: u32) -> Tally
         let c = slot.cell;
         let v = value_of(c);
         let set = heard::senders(&codes, q, n, v);
-        t = with_least(with_most(t, v, set), v, set, k);
+        t = with_least(s, with_most(t, v, set), v, set);
         left -= set;
     }
     t

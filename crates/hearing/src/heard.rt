@@ -1,46 +1,27 @@
-// Whom a receiver heard, a sender to a bit (document 01, "Who heard whom").
+// Whom a receiver heard, a sender to a bit (rules 7.1 to 7.8).
 ghost use mathlib.Core.Path.{_≡_};
-ghost use Prim.Native.Nat.{_-_, _*_, _^_, _≤_, _<_, min};
+ghost use Prim.Native.Nat.{_+_, _*_, _^_, _<_, min};
 ghost use Rattle.paper.specs.Stations.{one};
 ghost use Rattle.paper.specs.Heard.{arrived, holds};
 ghost use Rattle.run.specs.Run.{stations};
-ghost use Rattle.hearing.specs.Masks.{mask};
-ghost use Rattle.round.specs.Cells.{paper-cell};
-ghost use Rattle.hearing.specs.Survey.{message, messages-of, row-of, sets-of, prescribed};
-ghost use Rattle.hearing.specs.Tally.{passes-in, any, code-of, spoken-in, from-on};
+ghost use Rattle.hearing.specs.Masks.{mask, mask-without};
+ghost use Rattle.round.specs.Bridge.{paper-cell, message};
+ghost use Rattle.hearing.specs.Surveying.{messages-of, row-of, sets-of, prescribed};
+ghost use Rattle.hearing.specs.Counting.{passes-in, any, code-of, spoken-in, from-on};
 use super::Sent;
 use super::Sets;
 use super::Spoken;
 use round::Cell;
 use round::Slot;
 use run::Run;
+use run::block;
 
-// How many of the n stations an array has a place for.
-pub(crate) fn places(n: u8) -> usize
-    ensures { λ r. ⌜ r ≡ min n stations ⌝ }
+// A mask with one station more, below all that it has: a mask grows from its highest station down.
+fn grown(set: u32, there: bool) -> u32
+    requires { ⌜ 2 * set + 1 < 2 ^ stations ⌝ }
+    ensures { λ r. ⌜ r ≡ 2 * set + one there ⌝ }
 {
-    let all = n as usize;
-    if all < Run::STATIONS {
-        all
-    } else {
-        Run::STATIONS
-    }
-}
-
-// What station q adds to a mask.
-fn bit(q: usize, there: bool) -> u32
-    requires { ⌜ q < stations ⌝ }
-    ensures { λ r. ⌜ r ≡ one there * 2 ^ q ⌝ }
-{
-    (there as u32) << q
-}
-
-// What a station adds to a mask in which its bit is this power of two.
-fn weight(power: u64, there: bool) -> u32
-    requires { ⌜ power < 2 ^ 32 ⌝ }
-    ensures { λ r. ⌜ r ≡ one there * power ⌝ }
-{
-    if there { power as u32 } else { 0 }
+    2 * set + (there as u32)
 }
 
 // Whether the cell holds something.
@@ -77,10 +58,10 @@ fn has_value(c: Cell) -> bool
 }
 
 // What each station ought to send: its vote in a vote round, else its estimate.
-pub fn prescribed(votes: bool, run: Run) -> Sent
-    ensures { λ r. ⌜ r ≡ prescribed votes run ⌝ }
+pub fn prescribed(voting: bool, run: Run) -> Sent
+    ensures { λ r. ⌜ r ≡ prescribed voting run ⌝ }
 {
-    if votes {
+    if voting {
         let given = run.voted;
         let values = run.votes;
         Sent { given, values }
@@ -97,31 +78,24 @@ pub fn sets_of(cells: [Slot; Run::STATIONS], sent: Sent, n: u8) -> Sets
 {
     let given = sent.given;
     let values = sent.values;
-    let last = places(n);
     let mut ho: u32 = 0;
     let mut sho: u32 = 0;
-    let mut power: u64 = 1; // the bit of sender q, doubled at each turn
-    let mut q: usize = 0;
-    while q < last {
+    let mut q = block::places(n);
+    while q > 0 {
+        q -= 1;
         let slot = cells[q];
         let c = slot.cell;
-        ho += weight(power, arrived(c));
-        sho += weight(power, holds(c, given[q], values[q]));
-        power *= 2;
-        q += 1;
+        ho = grown(ho, arrived(c));
+        sho = grown(sho, holds(c, given[q], values[q]));
     }
     Sets { ho, sho }
 }
 
-// Whom a receiver heard otherwise than was to be sent: HO's mask less SHO's, for SHO is a part of HO in all sets that are made here.
+// Whom a receiver heard otherwise than was to be sent: who is in the mask of HO and not in that of SHO.
 pub fn altered(sets: Sets) -> u32
-    ensures { λ r. ⌜ r ≡ sets .ho - sets .sho ⌝ }
+    ensures { λ r. ⌜ r ≡ mask-without (sets .ho) (sets .sho) ⌝ }
 {
-    if sets.sho <= sets.ho {
-        sets.ho - sets.sho
-    } else {
-        0
-    }
+    sets.ho - (sets.ho & sets.sho)
 }
 
 // A cell's value as a number that is 0 where it has none.
@@ -139,31 +113,29 @@ fn code_of(c: Cell) -> u64
 pub(crate) fn spoken(cells: [Slot; Run::STATIONS], n: u8) -> Spoken
     ensures { λ r. ⌜ r ≡ spoken-in (min n stations) (row-of cells) ⌝ }
 {
-    let last = places(n);
     let mut codes: [u64; Run::STATIONS] = [0; Run::STATIONS];
     let mut senders: u32 = 0;
-    let mut q: usize = 0;
-    while q < last {
+    let mut q = block::places(n);
+    while q > 0 {
+        q -= 1;
         let slot = cells[q];
         let c = slot.cell;
         codes[q] = code_of(c);
-        senders += bit(q, has_value(c));
-        q += 1;
+        senders = grown(senders, has_value(c));
     }
     Spoken { codes, senders }
 }
 
 // Who among n senders sent the value v, from this one on.
 pub(crate) fn senders(codes: &[u64; Run::STATIONS], first: usize, n: u8, v: u32) -> u32
-    requires { ⌜ first ≤ min n stations ⌝ }
+    requires { ⌜ first < min n stations ⌝ }
     ensures { λ r. ⌜ r ≡ mask (min n stations) (from-on (now (codes .entry)) first v) ⌝ }
 {
-    let last = places(n);
     let mut set: u32 = 0;
-    let mut q = first;
-    while q < last {
-        set += bit(q, codes[q] == v as u64 + 1);
-        q += 1;
+    let mut q = block::places(n);
+    while q > first {
+        q -= 1;
+        set = grown(set, codes[q] == v as u64 + 1);
     }
-    set
+    set << first
 }

@@ -1,11 +1,9 @@
-// Who heard whom: HO and SHO of each receiver, their sizes against thresholds, how often values came, and the survey (document 01, "Who heard
-// whom").
+// Who heard whom: HO and SHO of each receiver, their sizes against thresholds, how often values came, and the survey
+// (rule 7).
 pub mod heard; // whom a receiver heard
-pub mod guard; // sizes against thresholds
 pub mod count; // how often values came
 pub mod surveys; // HO and SHO of a round
 
-ghost use mathlib.Core.Path.{_≡_};
 use run::Reply;
 use run::Run;
 
@@ -34,8 +32,8 @@ pub struct Survey {
     pub sho: [u32; Run::STATIONS],
 }
 
-// The count of a row: the value received most often, the smallest of these, with the set of its senders (0 and no sender for a row
-// without values); and the smallest value that came often enough, if there is one.
+// The count of a row: the most frequent value, the lowest of several, with the set of its senders (0 and no
+// sender for a row without values); and the smallest value that came often enough, if there is one.
 pub struct Tally {
     pub value: u32,
     pub senders: u32,

@@ -1,28 +1,26 @@
-// The survey: HO and SHO of every receiver of a round (document 01, "Who heard whom", "What the judge replies").
+// The survey: HO and SHO of every receiver of a round (rules 7.9 and 12.6).
 ghost use mathlib.Core.Path.{_≡_};
-ghost use Rattle.hearing.specs.Survey.{rows-surveyed, survey-of};
+ghost use Rattle.hearing.specs.Survey.{survey-of};
+ghost use Rattle.hearing.specs.Surveying.{rows-surveyed};
+use super::Sent;
 use super::Survey;
 use super::heard;
+use round::Matrix;
 use round::read;
 use run::Reply;
 use run::Run;
+use run::block;
 
-// The sets of each receiver, row by row, from a round whose records need no refusal any more: a row with one at fault counts as all
-// lost. `votes`: this is a vote round.
-fn survey_rows(run: Run, round: &[u8], votes: bool) -> Survey
-    ensures { λ r. ⌜ r ≡ rows-surveyed votes run (now (round .entry)) ⌝ }
+// The sets of each receiver among n, row by row of the matrix, of senders who ought to send these.
+fn survey_rows(matrix: Matrix, sent: Sent, n: u8) -> Survey
+    ensures { λ r. ⌜ r ≡ rows-surveyed n sent matrix ⌝ }
 {
-    let setup = run.setup;
-    let n = setup.n;
-    let sent = heard::prescribed(votes, run);
-    let last = heard::places(n);
+    let last = block::places(n);
     let mut ho: [u32; Run::STATIONS] = [0; Run::STATIONS];
     let mut sho: [u32; Run::STATIONS] = [0; Run::STATIONS];
     let mut p: usize = 0;
     while p < last {
-        let receiver = p as u8;
-        let row = read::read_row(read::row_part(round, n, receiver), votes, receiver, n);
-        let cells = row.cells;
+        let cells = read::row(matrix, p as u8);
         let sets = heard::sets_of(cells, sent, n);
         ho[p] = sets.ho;
         sho[p] = sets.sho;
@@ -39,7 +37,8 @@ fn survey_rows(run: Run, round: &[u8], votes: bool) -> Survey
 pub fn survey(run: Run, round: &[u8]) -> Survey
     ensures { λ r. ⌜ r ≡ survey-of run (now (round .entry)) ⌝ }
 {
-    let reply = read::check_reading(run, round);
+    let reading = read::read_round(run, round);
+    let reply = reading.reply;
     if reply.number() != 0 {
         return Survey {
             reply,
@@ -48,5 +47,7 @@ pub fn survey(run: Run, round: &[u8]) -> Survey
         };
     }
     let setup = run.setup;
-    survey_rows(run, round, rules::may_vote(setup, run.clock))
+    let sent = heard::prescribed(rules::may_vote(setup, run.clock), run);
+    let matrix = reading.matrix;
+    survey_rows(matrix, sent, setup.n)
 }

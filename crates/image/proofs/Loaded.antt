@@ -1,124 +1,138 @@
--- An accepted image: its run is sound, since what the checks asked is what the rules ask; and saved again it gives the same bytes, since each part of
--- the image is the records that were read from there.
+-- An accepted image: its run is sound, since what the checks asked is what the rules ask; and saved again it gives the
+-- same bytes, since each part of the image is the records that were read from there.
 use mathlib.Core.Path.{_≡_, refl, ap, sym, _∙_}
 use mathlib.Core.Logic.{_↔_}
 use mathlib.Core.Bool.{Bool, true, false, not}
-use mathlib.Core.List.{List, [], _++_}
-use Prim.Native.Nat.{ℕ, _+_, _*_, _<_, _≤_}
+use mathlib.Core.List.{List, [], _∷_}
+use Prim.Native.Nat.{ℕ, _+_, _<_, _≤_}
 use native.Mathlib.Omega.{arith}
 use borrow.Author.Tests.{eqb-true, leb-true, eq-eqb, le-leb, not-false}
-use lib.ListN.{length, getD}
+use lib.ListN.{length}
 use lib.Dec.{eqb, leb}
 use Rattle.run.specs.declared.Run.{Run}
+use Rattle.run.specs.declared.Station.{Station}
 use Rattle.run.specs.declared.record.Record.{Record}
+use Rattle.run.specs.declared.block.Shape.{Shape}
+use Rattle.run.specs.declared.block.Shape.the-variants.{Maybe}
 use Rattle.run.specs.declared.Reply.the-variants.{Accepted, Length, Malformed, Rules}
+use Rattle.run.specs.Kinds as kind
 use Rattle.run.specs.Bytes.{IsBytes}
-use Rattle.run.specs.Record.{recordAt, recordBytes}
-use Rattle.run.specs.Written.{written}
+use Rattle.run.specs.Record.{record-at, bytes-of}
 use Rattle.run.specs.First.{first}
 use Rattle.run.specs.Reply.{or-refuse}
 use Rattle.run.specs.Run.{stations, most-rounds, station-at, vote-fits, decision-fits, station-fits, sound}
-use Rattle.run.specs.Keeps.{StationKeeps, Empty}
+use Rattle.run.specs.Keeps.{StationKeeps}
 use Rattle.run.specs.Machine.{Machine}
-use Rattle.run.specs.Block.{is-plain, check-block}
-use Rattle.run.specs.Opening.{setup-in, default-in, check-head, check-default}
-use Rattle.run.proofs.Records.{recordAt-fits}
+use Rattle.run.specs.Block.{plain, is-plain, record-of, check-block}
+use Rattle.run.specs.Opening.{default-at, setup-in, default-in, check-head, check-default}
+use Rattle.run.proofs.Records.{record-at-fits}
 use Rattle.run.proofs.First.{first-none}
 use Rattle.run.proofs.Replies.{then-accepted, or-refuse-accepted, refuse-at-accepted}
-use Rattle.run.proofs.Heads.{check-setup-accepted, check-head-accepted, check-default-accepted, default-fits-iff, head-again}
-use Rattle.run.proofs.Blocks.{plain-is, numbers-in-ends, flags-in-ends, numbers-hold, maybe-hold, maybe-kept}
-use Rattle.run.proofs.Written.{written-same, written-more, written-add, written-recordAt}
-use Rattle.run.proofs.Machines.{numbers-in-words}
+use Rattle.run.proofs.Heads.{
+  check-setup-accepted,
+  check-head-accepted,
+  check-default-accepted,
+  default-fits-iff,
+  head-again,
+}
+use Rattle.run.proofs.Blocks.{plain-is, fits-at, check-block-accepted, number-record, maybe-record}
+use Rattle.run.proofs.Written.{written-more, written-record-at}
+use Rattle.run.proofs.Built.{built-below, built-machine, built-keeps}
 use Rattle.run.proofs.Sound.{setup-iff, sound-iff, station-keeps, keeps-beside}
 use Rattle.image.specs.Image.{
-  estimates,
-  votes,
-  decisions,
-  rounds,
+  clock-at,
   estimates-from,
   votes-from,
   decisions-from,
   rounds-from,
   image-length,
   clock-record,
-  estimate-record,
-  vote-record,
-  decision-record,
-  round-record,
+  Block,
+  estimates-block,
+  votes-block,
+  decisions-block,
+  rounds-block,
+  blocks,
   image,
-  check-form,
+  saved,
+  station-in,
+  clock-in,
   run-in,
+  check-blocks,
+  check-form,
   check-votes,
   check-decisions,
   check-rules,
   check-image,
-  saved,
-  loaded,
 }
-use Rattle.image.proofs.Images.{check-records-is, check-form-is, check-rules-is, image-is, saved-image, form-stations}
+use Rattle.image.proofs.Blocks.{Each, Holds, blocks-checked, hold-written}
+use Rattle.image.proofs.Images.{
+  check-records-is,
+  check-form-is,
+  check-rules-is,
+  image-is,
+  saved-image,
+  form-stations,
+}
 
 -- ---- what is accepted passed each check
 pub record Checked (bs : List ℕ) : Type 0 where
   pub headed : check-head bs ≡ Accepted
   pub whole : length bs ≡ image-length (setup-in bs .n)
   pub default : check-default bs ≡ Accepted
-  pub clock : is-plain 8 0 (recordAt bs 2) ≡ true
-  pub estimates : check-block bs estimates-from (setup-in bs .n) estimates ≡ Accepted
-  pub votes : check-block bs (votes-from (setup-in bs .n)) (setup-in bs .n) votes ≡ Accepted
-  pub decisions : check-block bs (decisions-from (setup-in bs .n)) (setup-in bs .n) decisions ≡ Accepted
-  pub rounds : check-block bs (rounds-from (setup-in bs .n)) (setup-in bs .n) rounds ≡ Accepted
+  pub clock : is-plain kind.CLOCK 0 (record-at bs clock-at) ≡ true
+  pub blocks-fit : check-blocks bs estimates-from (setup-in bs .n) blocks ≡ Accepted
 
 pub form-checked : (bs : List ℕ) → (check-form bs ≡ Accepted) ↔ Checked bs
 form-checked bs = (there, back)
   where
     there : check-form bs ≡ Accepted → Checked bs
     there e =
-        let n = setup-in bs .n in
+        let fits = eqb (length bs) (image-length (setup-in bs .n)) in
         let (headed, sized) = then-accepted (check-head bs) _ (rw check-form-is at e) in
-        let (whole, defaulted) = then-accepted (or-refuse (eqb (length bs) (image-length n)) Length) _ sized in
+        let (whole, defaulted) = then-accepted (or-refuse fits Length) _ sized in
         let (default, records) = then-accepted (check-default bs) _ defaulted in
-        let (clock, blocks) = then-accepted (or-refuse (is-plain 8 0 (recordAt bs 2)) (Malformed 2)) _ (rw check-records-is at records) in
-        let (first, three) = then-accepted (check-block bs estimates-from n estimates) _ blocks in
-        let (second, two) = then-accepted (check-block bs (votes-from n) n votes) _ three in
-        let (third, fourth) = then-accepted (check-block bs (decisions-from n) n decisions) _ two in
+        let clocked = or-refuse (is-plain kind.CLOCK 0 (record-at bs clock-at)) (Malformed clock-at) in
+        let (clock, blocks-fit) = then-accepted clocked _ (rw check-records-is at records) in
         record {
           headed = headed;
           whole = eqb-true _ _ (or-refuse-accepted _ Length refl whole);
           default = default;
-          clock = or-refuse-accepted _ (Malformed 2) refl clock;
-          estimates = first;
-          votes = second;
-          decisions = third;
-          rounds = fourth;
+          clock = or-refuse-accepted _ (Malformed clock-at) refl clock;
+          blocks-fit = blocks-fit;
         }
 
     back : Checked bs → check-form bs ≡ Accepted
     back h =
-        rw (check-form-is, h .headed, eq-eqb _ _ (h .whole), h .default, check-records-is, h .clock, h .estimates, h .votes, h .decisions) (h .rounds)
+        let whole = eq-eqb _ _ (h .whole) in
+        rw (check-form-is, h .headed, whole, h .default, check-records-is, h .clock) (h .blocks-fit)
 
 -- the rules that the records alone don't give
 pub record Ruled (run : Run) : Type 0 where
   pub clock : run .clock ≤ most-rounds
-  pub votes : (i : ℕ) → i < run .setup .n → vote-fits (run .setup) (run .clock) (getD (run .voted) i false) ≡ true
-  pub decisions : (i : ℕ) → i < run .setup .n → decision-fits (run .setup) (run .clock) (getD (run .decided) i false) (getD (run .rounds) i 0) ≡ true
+  pub votes : (i : ℕ) → i < run .setup .n → vote-fits (run .setup) (run .clock) (station-at run i .voted) ≡ true
+  pub decisions : (i : ℕ) → i < run .setup .n
+      → decision-fits (run .setup) (run .clock) (station-at run i .decided) (station-at run i .round) ≡ true
 
 module _ (run : Run) where
   abbrev vote-fails : ℕ → Bool
-  vote-fails i = not (vote-fits (run .setup) (run .clock) (getD (run .voted) i false))
+  vote-fails i = not (vote-fits (run .setup) (run .clock) (station-at run i .voted))
 
   abbrev decision-fails : ℕ → Bool
-  decision-fails i = not (decision-fits (run .setup) (run .clock) (getD (run .decided) i false) (getD (run .rounds) i 0))
+  decision-fails i = not (decision-fits (run .setup) (run .clock) (station-at run i .decided) (station-at run i .round))
 
   accepted-ruled : check-rules run ≡ Accepted → Ruled run
   unfolding check-votes check-decisions
   accepted-ruled e =
       let n = run .setup .n in
-      let (clock, rest) = then-accepted (or-refuse (leb (run .clock) most-rounds) (Rules 2)) _ (rw check-rules-is at e) in
+      let timely = or-refuse (leb (run .clock) most-rounds) (Rules clock-at) in
+      let (clock, rest) = then-accepted timely _ (rw check-rules-is at e) in
       let (votes, decisions) = then-accepted (check-votes (run .setup) (run .clock) (run .voted)) _ rest in
       let no-vote = refuse-at-accepted (first n vote-fails) (λ i. Rules (votes-from n + i)) (λ i. refl) votes in
-      let no-decision = refuse-at-accepted (first n decision-fails) (λ i. Rules (rounds-from n + i)) (λ i. refl) decisions in
+      let no-decision
+      = refuse-at-accepted (first n decision-fails) (λ i. Rules (rounds-from n + i)) (λ i. refl) decisions in
       record {
-        clock = leb-true _ _ (or-refuse-accepted _ (Rules 2) refl clock);
+        clock = leb-true _ _ (or-refuse-accepted _ (Rules clock-at) refl clock);
         votes = λ i l. not-false _ (first-none vote-fails n .0 no-vote i l);
         decisions = λ i l. not-false _ (first-none decision-fails n .0 no-decision i l);
       }
@@ -127,23 +141,29 @@ module _ (run : Run) where
   unfolding check-votes check-decisions
   ruled-accepted h =
       let n = run .setup .n in
-      rw (check-rules-is, le-leb _ _ (h .clock), first-none vote-fails n .1 (λ i l. ap not (h .votes i l)), first-none decision-fails n .1 (λ i l. ap not (h .decisions i l)))
+      rw (
+        check-rules-is,
+        le-leb _ _ (h .clock),
+        first-none vote-fails n .1 (λ i l. ap not (h .votes i l)),
+        first-none decision-fails n .1 (λ i l. ap not (h .decisions i l)),
+      )
 
   pub rules-checked : (check-rules run ≡ Accepted) ↔ Ruled run
   rules-checked = (accepted-ruled, ruled-accepted)
 
--- ---- the records of an image, part by part
-parts : (n : ℕ) (f : ℕ → Record)
-    → written 2 f ++ recordBytes (f 2) ++ written n (λ i. f (estimates-from + i)) ++ written n (λ i. f (votes-from n + i)) ++ written n (λ i. f (decisions-from n + i)) ++ written n (λ i. f (rounds-from n + i))
-    ≡ written (3 + 4 * n) f
-parts n f =
-    let two : votes-from n + n ≡ decisions-from n = omega arith in
-    let three : decisions-from n + n ≡ rounds-from n = omega arith in
-    let four : rounds-from n + n ≡ 3 + 4 * n = omega arith in
-    rw (← written-more 2 f, ← written-add 3 n f, ← written-add (votes-from n) n f, two, ← written-add (decisions-from n) n f, three, ← written-add (rounds-from n) n f, four)
+-- a record without a number has none
+number-beside : (without given i : ℕ) (r : Record)
+    → r ≡ record-of (Maybe without given) i (eqb (r .kind) given) (r .number) → eqb (r .kind) given ≡ false
+    → r .number ≡ 0
+unfolding record-of plain
+number-beside without given i r is none =
+    ap (λ (s : Record). s .number) is ∙ ap (λ (b : Bool). record-of (Maybe without given) i b (r .number) .number) none
 
 -- ---- the run of an accepted image
 module _ (bs : List ℕ) (e : check-image bs ≡ Accepted) where
+  abbrev n : ℕ
+  n = setup-in bs .n
+
   checked : Checked bs
   unfolding check-image
   checked = form-checked bs .0 (then-accepted (check-form bs) _ e .0)
@@ -152,68 +172,82 @@ module _ (bs : List ℕ) (e : check-image bs ≡ Accepted) where
   unfolding check-image
   ruled = rules-checked (run-in bs) .0 (then-accepted (check-form bs) _ e .1)
 
-  -- it is the answer
-  pub loaded-run : loaded bs ≡ record { reply = Accepted; run = run-in bs }
-  unfolding loaded
-  loaded-run = rw e
-
-  most : setup-in bs .n ≤ stations
+  most : n ≤ stations
   most = form-stations bs (form-checked bs .1 checked)
 
+  spelt : (i : ℕ) → i < n → station-at (run-in bs) i ≡ station-in bs i
+  unfolding run-in
+  spelt i l = built-below (setup-in bs) (default-in bs) (clock-in bs) n (station-in bs) i (omega (arith, most)) l
+
+  -- each record is the one that is written of what it tells of its station
+  abbrev Spells : ℕ → Block → Type 0
+  Spells start b =
+      (i : ℕ) → i < n
+      → record-at bs (start + i) ≡ record-of (b .shape) i (b .there (station-in bs i)) (b .number (station-in bs i))
+
+  fit : (start : ℕ) (shape : Shape) → check-block bs start n shape ≡ Accepted
+      → (i : ℕ) → i < n → fits-at bs start shape i ≡ true
+  fit start shape = check-block-accepted bs start n shape .0
+
+  spells : Each Spells n estimates-from blocks
+  spells =
+      let all = blocks-checked bs n estimates-from blocks .0 (checked .blocks-fit) in
+      let (estimates, (votes, (decisions, (rounds, _)))) = all in
+      let estimate : Spells estimates-from estimates-block
+      = λ i l. number-record kind.ESTIMATE i false _ (fit estimates-from _ estimates i l) in
+      let vote : Spells (votes-from n) votes-block
+      = λ i l. maybe-record kind.NO-VOTE kind.VOTE i _ (fit (votes-from n) _ votes i l) in
+      let decision : Spells (decisions-from n) decisions-block
+      = λ i l. maybe-record kind.UNDECIDED kind.DECIDED i _ (fit (decisions-from n) _ decisions i l) in
+      let round : Spells (rounds-from n) rounds-block
+      = λ i l. number-record kind.DECISION-ROUND i false _ (fit (rounds-from n) _ rounds i l) in
+      (estimate, (vote, (decision, (round, tt))))
+
   -- a station's entries keep the rules
-  station : (i : ℕ) → i < setup-in bs .n → StationKeeps (setup-in bs) (recordAt bs 2 .number) (station-at (run-in bs) i)
+  station : (i : ℕ) → i < n → StationKeeps (setup-in bs) (clock-in bs) (station-in bs i)
   unfolding run-in station-fits
   station i l =
-      let n = setup-in bs .n in
-      let place : i < stations = omega (arith, most) in
-      station-keeps (setup-in bs) (recordAt bs 2 .number) (station-at (run-in bs) i)
-      (rw (ruled .votes i l, ruled .decisions i l, keeps-beside (maybe-kept bs (votes-from n) n 10 11 (checked .votes) i place), keeps-beside (maybe-kept bs (decisions-from n) n 12 13 (checked .decisions) i place)))
-
-  rest : (i : ℕ) → setup-in bs .n ≤ i → i < stations → Empty (station-at (run-in bs) i)
-  unfolding run-in
-  rest i h l =
-      let n = setup-in bs .n in
-      record {
-        estimate = numbers-in-ends bs estimates-from n .above i l h;
-        voted = flags-in-ends bs (votes-from n) n 11 .above i l h;
-        vote = numbers-in-ends bs (votes-from n) n .above i l h;
-        decided = flags-in-ends bs (decisions-from n) n 13 .above i l h;
-        decision = numbers-in-ends bs (decisions-from n) n .above i l h;
-        round = numbers-in-ends bs (rounds-from n) n .above i l h;
-      }
+      let s = setup-in bs in
+      let clock : ℕ = clock-in bs in
+      let p : Station = station-in bs i in
+      let vote : vote-fits s clock (p .voted) ≡ true
+      = ap (λ (q : Station). vote-fits s clock (q .voted)) (sym (spelt i l)) ∙ ruled .votes i l in
+      let decision : decision-fits s clock (p .decided) (p .round) ≡ true
+      = ap (λ (q : Station). decision-fits s clock (q .decided) (q .round)) (sym (spelt i l)) ∙ ruled .decisions i l in
+      station-keeps s clock p
+      (rw (
+        vote,
+        decision,
+        keeps-beside (number-beside kind.NO-VOTE kind.VOTE i _ (spells .1 .0 i l)),
+        keeps-beside (number-beside kind.UNDECIDED kind.DECIDED i _ (spells .1 .1 .0 i l)),
+      ))
 
   pub loaded-sound : sound (run-in bs) ≡ true
   unfolding run-in
   loaded-sound =
       let tests = check-setup-accepted (setup-in bs) .0 (check-head-accepted bs .0 (checked .headed) .2) in
+      let (_, fits) = check-default-accepted bs .0 (checked .default) in
+      let setup = setup-iff (setup-in bs) .0 tests in
+      let default = default-fits-iff (setup-in bs) (default-in bs) (tests .0) .0 fits in
       sound-iff (run-in bs) .1
-      (record {
-        setup = setup-iff (setup-in bs) .0 tests;
-        default = default-fits-iff (setup-in bs) (default-in bs) (tests .0) .0 (check-default-accepted bs .0 (checked .default) .1);
-        clock = ruled .clock;
-        below = station;
-        above = rest;
-      })
+      (built-keeps (setup-in bs) (default-in bs) (clock-in bs) (station-in bs) setup default (ruled .clock) station)
 
   -- its bytes are those of the run's image
+  hold : (start : ℕ) (rest : List Block) → Each Spells n start rest → Each (Holds (run-in bs) bs) n start rest
+  unfolding run-in
+  hold start [] h = tt
+  hold start (b ∷ rest) h = (λ i l. rw (spelt i l) (h .0 i l), hold (start + n) rest (h .1))
+
   pub loaded-image : IsBytes bs → image (run-in bs) ≡ bs
   unfolding run-in
   loaded-image bytes =
-      let n : ℕ = setup-in bs .n in
       let is = check-head-accepted bs .0 (checked .headed) .1 in
       let there = check-default-accepted bs .0 (checked .default) .0 in
-      let clock : recordBytes (clock-record (recordAt bs 2 .number)) ≡ recordBytes (recordAt bs 2)
-      = ap recordBytes (sym (plain-is 8 0 (recordAt bs 2) (checked .clock))) in
-      let first : written n (estimate-record (run-in bs)) ≡ written n (λ i. recordAt bs (estimates-from + i))
-      = written-same n _ _ (λ i l. sym (numbers-hold bs estimates-from n 9 [] most (checked .estimates) i l)) in
-      let second : written n (vote-record (run-in bs)) ≡ written n (λ i. recordAt bs (votes-from n + i))
-      = written-same n _ _ (λ i l. sym (maybe-hold bs (votes-from n) n 10 11 most (checked .votes) i l)) in
-      let third : written n (decision-record (run-in bs)) ≡ written n (λ i. recordAt bs (decisions-from n + i))
-      = written-same n _ _ (λ i l. sym (maybe-hold bs (decisions-from n) n 12 13 most (checked .decisions) i l)) in
-      let fourth : written n (round-record (run-in bs)) ≡ written n (λ i. recordAt bs (rounds-from n + i))
-      = written-same n _ _ (λ i l. sym (numbers-hold bs (rounds-from n) n 14 [] most (checked .rounds) i l)) in
-      rw (image-is (run-in bs), head-again bs is there, clock, first, second, third, fourth)
-      (parts n (recordAt bs) ∙ written-recordAt (3 + 4 * n) bytes (checked .whole))
+      let clock : bytes-of (clock-record (clock-in bs)) ≡ bytes-of (record-at bs clock-at)
+      = ap bytes-of (sym (plain-is kind.CLOCK 0 (record-at bs clock-at) (checked .clock))) in
+      rw (image-is (run-in bs), head-again bs is there, clock, ← written-more clock-at (record-at bs))
+      (hold-written (run-in bs) bs estimates-from blocks (hold estimates-from blocks spells)
+      ∙ written-record-at (rounds-from n + n) bytes (checked .whole ∙ omega arith))
 
   -- and saved into a buffer of that length it gives them again
   pub load-save : IsBytes bs → (buffer : List ℕ) → length buffer ≡ length bs → saved (run-in bs) buffer ≡ bs
@@ -224,13 +258,12 @@ module _ (bs : List ℕ) (e : check-image bs ≡ Accepted) where
   pub loaded-machine : IsBytes bs → Machine (run-in bs)
   unfolding run-in
   loaded-machine bytes =
-      let n : ℕ = setup-in bs .n in
+      built-machine (setup-in bs) (default-in bs) (clock-in bs) n (station-in bs)
+      (record-at-fits default-at bytes .number)
+      (λ i l.
       record {
-        default = recordAt-fits 1 bytes .number;
-        estimates = numbers-in-words bs estimates-from n bytes;
-        voted = flags-in-ends bs (votes-from n) n 11 .long;
-        votes = numbers-in-words bs (votes-from n) n bytes;
-        decided = flags-in-ends bs (decisions-from n) n 13 .long;
-        decisions = numbers-in-words bs (decisions-from n) n bytes;
-        rounds = numbers-in-words bs (rounds-from n) n bytes;
-      }
+        estimate = record-at-fits (estimates-from + i) bytes .number;
+        vote = record-at-fits (votes-from n + i) bytes .number;
+        decision = record-at-fits (decisions-from n + i) bytes .number;
+        round = record-at-fits (rounds-from n + i) bytes .number;
+      })

@@ -1,135 +1,155 @@
--- Images: document 01, "Run and image" (kinds 8 to 14) and, for the order of the checks, "What the judge replies".
--- An image is setup, default and clock, then four blocks of n records: estimates, votes, decisions, decision rounds.
+-- Images: their records, and the checks in the order of rules 12.3 and 12.4 (rules 6).
 use Prim.Native.Nat.{ℕ, _+_, _*_}
 use mathlib.Core.Bool.{Bool, false, not, cond}
-use mathlib.Core.List.{List, [], _++_}
+use mathlib.Core.List.{List, [], _∷_, _++_}
 use lib.ListN.{length, getD}
 use lib.Dec.{eqb, leb}
-use Rattle.run.specs.declared.Setup.{Setup}
+use Rattle.limits.specs.declared.Setup.{Setup}
 use Rattle.run.specs.declared.Run.{Run}
+use Rattle.run.specs.declared.Station.{Station}
 use Rattle.run.specs.declared.Opened.{Opened}
 use Rattle.run.specs.declared.record.Record.{Record}
 use Rattle.run.specs.declared.block.Shape.{Shape}
 use Rattle.run.specs.declared.block.Shape.the-variants.{Number, Maybe}
 use Rattle.run.specs.declared.Reply.{Reply}
-use Rattle.run.specs.declared.Reply.the-variants.{Length, Malformed, Buffer, Rules}
-use Rattle.run.specs.Record.{record-bytes, recordAt, recordBytes, putAt}
+use Rattle.run.specs.declared.Reply.the-variants.{Accepted, Length, Malformed, Buffer, Rules}
+use Rattle.run.specs.Kinds as kind
+use Rattle.run.specs.Record.{record-bytes, record-at, bytes-of}
 use Rattle.run.specs.Written.{written}
 use Rattle.run.specs.First.{first}
 use Rattle.run.specs.Reply.{is-accepted, _then_, or-refuse, refuse-at}
-use Rattle.run.specs.Run.{most-rounds, idle, vote-fits, decision-fits, sound}
-use Rattle.run.specs.Block.{plain, is-plain, check-block, numbers-in, flags-in, block-record, put-block}
-use Rattle.run.specs.Opening.{setup-in, default-in, check-head, check-default, head-bytes, put-head, answer}
+use Rattle.run.specs.Run.{most-rounds, run-to, run-of, station-at, vote-fits, decision-fits, sound}
+use Rattle.run.specs.Block.{plain, is-plain, record-of, check-block}
+use Rattle.run.specs.Opening.{setup-in, default-in, check-head, check-default, unopened, answer, head-bytes}
 
--- "estimate (kind 9 ..), vote (10 for "?", 11 with value), decision (12 none, 13 with value), decision round (14 ..)"
-abbrev pub estimates : Shape
-estimates = Number 9
+-- where the records stand (rules 6.1 and 6.2): the clock, and then each block behind the one before it
+abbrev pub clock-at : ℕ
+clock-at = 2
 
-abbrev pub votes : Shape
-votes = Maybe 10 11
-
-abbrev pub decisions : Shape
-decisions = Maybe 12 13
-
-abbrev pub rounds : Shape
-rounds = Number 14
-
--- where the four blocks begin, and "8(3 + 4n) bytes"
 abbrev pub estimates-from : ℕ
 estimates-from = 3
 
 abbrev pub votes-from : ℕ → ℕ
-votes-from n = 3 + n
+votes-from n = estimates-from + n
 
 abbrev pub decisions-from : ℕ → ℕ
-decisions-from n = 3 + 2 * n
+decisions-from n = votes-from n + n
 
 abbrev pub rounds-from : ℕ → ℕ
-rounds-from n = 3 + 3 * n
+rounds-from n = decisions-from n + n
 
+-- rule 1.7
 abbrev pub image-length : ℕ → ℕ
-image-length n = record-bytes * (3 + 4 * n)
+image-length n = record-bytes * (estimates-from + 4 * n)
 
--- the record of the clock: "clock (kind 8, bytes 4-7)"
+-- ---- the records
+-- the clock's
 abbrev pub clock-record : ℕ → Record
-clock-record clock = plain 8 0 clock
+clock-record clock = plain kind.CLOCK 0 clock
 
--- station i's record in each block
-module _ (run : Run) where
-  abbrev pub estimate-record : ℕ → Record
-  estimate-record = block-record estimates [] (run .estimates)
+-- the blocks' shapes (rule 6.2)
+abbrev pub estimates-shape : Shape
+estimates-shape = Number kind.ESTIMATE
 
-  abbrev pub vote-record : ℕ → Record
-  vote-record = block-record votes (run .voted) (run .votes)
+abbrev pub votes-shape : Shape
+votes-shape = Maybe kind.NO-VOTE kind.VOTE
 
-  abbrev pub decision-record : ℕ → Record
-  decision-record = block-record decisions (run .decided) (run .decisions)
+abbrev pub decisions-shape : Shape
+decisions-shape = Maybe kind.UNDECIDED kind.DECIDED
 
-  abbrev pub round-record : ℕ → Record
-  round-record = block-record rounds [] (run .rounds)
+abbrev pub rounds-shape : Shape
+rounds-shape = Number kind.DECISION-ROUND
+
+-- a block: its records' shape, and what they tell of a station
+pub record Block : Type 0 where
+  pub shape : Shape
+  pub there : Station → Bool
+  pub number : Station → ℕ
+
+-- the four blocks in order
+abbrev pub estimates-block : Block
+estimates-block = record { shape = estimates-shape; there = λ p. false; number = λ p. p .estimate }
+
+abbrev pub votes-block : Block
+votes-block = record { shape = votes-shape; there = λ p. p .voted; number = λ p. p .vote }
+
+abbrev pub decisions-block : Block
+decisions-block = record { shape = decisions-shape; there = λ p. p .decided; number = λ p. p .decision }
+
+abbrev pub rounds-block : Block
+rounds-block = record { shape = rounds-shape; there = λ p. false; number = λ p. p .round }
+
+abbrev pub blocks : List Block
+blocks = estimates-block ∷ votes-block ∷ decisions-block ∷ rounds-block ∷ []
+
+-- station i's record in a block
+abbrev pub station-record : Block → Run → ℕ → Record
+station-record b run i = record-of (b .shape) i (b .there (station-at run i)) (b .number (station-at run i))
+
+-- ---- saving
+-- blocks one behind the other
+unfoldable pub blocks-bytes : List Block → Run → List ℕ
+unfolding written
+blocks-bytes [] run = []
+blocks-bytes (b ∷ rest) run = written (run .setup .n) (station-record b run) ++ blocks-bytes rest run
 
 -- the bytes of a run's image
 unfoldable pub image : Run → List ℕ
-unfolding head-bytes plain recordBytes written
-image run =
-    head-bytes (run .setup) (run .default) ++ recordBytes (clock-record (run .clock)) ++ written (run .setup .n) (estimate-record run)
-    ++ written (run .setup .n) (vote-record run) ++ written (run .setup .n) (decision-record run)
-    ++ written (run .setup .n) (round-record run)
+unfolding head-bytes plain bytes-of blocks-bytes
+image run = head-bytes (run .setup) (run .default) ++ bytes-of (clock-record (run .clock)) ++ blocks-bytes blocks run
 
--- "Saving: 10, 9"
+-- rule 12.4
 unfoldable pub check-save : Run → ℕ → Reply
 unfolding sound
 check-save run room = or-refuse (sound run) (Rules 0) then or-refuse (eqb room (image-length (run .setup .n))) Buffer
 
--- what the lent buffer holds after saving: "A refusal writes no byte"
+-- what the lent buffer holds after saving (rule 6.7): a refusal writes no byte
 unfoldable pub saved : Run → List ℕ → List ℕ
 unfolding check-save image
 saved run buffer = cond (is-accepted (check-save run (length buffer))) (image run) buffer
 
--- an image put into some bytes record by record, as far as they have the records
-unfoldable pub put-image : List ℕ → Run → List ℕ
-unfolding put-head plain putAt put-block
-put-image bs run =
-    let n = run .setup .n in
-    let head = putAt (put-head bs (run .setup) (run .default)) 2 (clock-record (run .clock)) in
-    let with-estimates = put-block head estimates-from n (estimate-record run) in
-    let with-votes = put-block with-estimates (votes-from n) n (vote-record run) in
-    let with-decisions = put-block with-votes (decisions-from n) n (decision-record run) in
-    put-block with-decisions (rounds-from n) n (round-record run)
+-- ---- loading
+-- station i as its records spell it
+abbrev pub station-in : List ℕ → ℕ → Station
+station-in bs i =
+    let n = setup-in bs .n in
+    record {
+      estimate = record-at bs (estimates-from + i) .number;
+      voted = eqb (record-at bs (votes-from n + i) .kind) kind.VOTE;
+      vote = record-at bs (votes-from n + i) .number;
+      decided = eqb (record-at bs (decisions-from n + i) .kind) kind.DECIDED;
+      decision = record-at bs (decisions-from n + i) .number;
+      round = record-at bs (rounds-from n + i) .number;
+    }
 
--- the records after the default, as far as kind, station and zero bytes go
+abbrev pub clock-in : List ℕ → ℕ
+clock-in bs = record-at bs clock-at .number
+
+-- the run that an image's records spell (rule 6.3)
+unfoldable pub run-in : List ℕ → Run
+unfolding run-to
+run-in bs = run-of (setup-in bs) (default-in bs) (clock-in bs) (station-in bs)
+
+-- the records are well formed: 2 at the first that is not, blocks in order
+unfoldable pub check-blocks : List ℕ → ℕ → ℕ → List Block → Reply
+unfolding check-block
+check-blocks bs start n [] = Accepted
+check-blocks bs start n (b ∷ rest) = check-block bs start n (b .shape) then check-blocks bs (start + n) n rest
+
 unfoldable pub check-records : List ℕ → ℕ → Reply
-unfolding is-plain check-block
+unfolding is-plain check-blocks
 check-records bs n =
-    or-refuse (is-plain 8 0 (recordAt bs 2)) (Malformed 2) then check-block bs estimates-from n estimates
-    then check-block bs (votes-from n) n votes then check-block bs (decisions-from n) n decisions
-    then check-block bs (rounds-from n) n rounds
+    or-refuse (is-plain kind.CLOCK 0 (record-at bs clock-at)) (Malformed clock-at)
+    then check-blocks bs estimates-from n blocks
 
--- "fewer than 8 bytes 1; setup record 2, then 3, 4; whole length 1; the rest in order 2": the same as an opening
+-- the form of all records comes first (rule 6.4)
 unfoldable pub check-form : List ℕ → Reply
 unfolding check-head check-default check-records
 check-form bs =
     check-head bs then or-refuse (eqb (length bs) (image-length (setup-in bs .n))) Length then check-default bs
     then check-records bs (setup-in bs .n)
 
--- the run that an image's records spell
-unfoldable pub run-in : List ℕ → Run
-unfolding numbers-in flags-in
-run-in bs =
-    let n = setup-in bs .n in
-    record {
-      setup = setup-in bs;
-      default = default-in bs;
-      clock = recordAt bs 2 .number;
-      estimates = numbers-in bs estimates-from n;
-      voted = flags-in bs (votes-from n) n 11;
-      votes = numbers-in bs (votes-from n) n;
-      decided = flags-in bs (decisions-from n) n 13;
-      decisions = numbers-in bs (decisions-from n) n;
-      rounds = numbers-in bs (rounds-from n) n;
-    }
-
--- "10 .. image: first record at fault, the round record for a decision"
+-- then the rules of a run, each told at the record of rule 6.5
 unfoldable pub check-votes : Setup → ℕ → List Bool → Reply
 unfolding vote-fits
 check-votes s clock voted =
@@ -138,24 +158,22 @@ check-votes s clock voted =
 unfoldable pub check-decisions : Setup → ℕ → List Bool → List ℕ → Reply
 unfolding decision-fits
 check-decisions s clock decided rounds =
-    refuse-at (first (s .n) (λ i. not (decision-fits s clock (getD decided i false) (getD rounds i 0)))) (λ i. Rules (rounds-from (s .n) + i))
+    refuse-at
+    (first (s .n) (λ i. not (decision-fits s clock (getD decided i false) (getD rounds i 0))))
+    (λ i. Rules (rounds-from (s .n) + i))
 
 unfoldable pub check-rules : Run → Reply
 unfolding check-votes check-decisions
 check-rules run =
-    or-refuse (leb (run .clock) most-rounds) (Rules 2) then check-votes (run .setup) (run .clock) (run .voted)
+    or-refuse (leb (run .clock) most-rounds) (Rules clock-at) then check-votes (run .setup) (run .clock) (run .voted)
     then check-decisions (run .setup) (run .clock) (run .decided) (run .rounds)
 
--- "Image: the same, then 10"
+-- rule 12.3
 unfoldable pub check-image : List ℕ → Reply
 unfolding check-form run-in check-rules
 check-image bs = check-form bs then check-rules (run-in bs)
 
--- "A refused opening or image gives the idle run"
-unfoldable pub refused : Reply → Opened
-unfolding idle
-refused r = record { reply = r; run = idle }
-
+-- the run, or the idle one where the image is refused (rule 6.6)
 unfoldable pub loaded : List ℕ → Opened
-unfolding check-image run-in
+unfolding check-image run-in unopened
 loaded bs = answer (check-image bs) (run-in bs)

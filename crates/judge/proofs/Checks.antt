@@ -1,12 +1,12 @@
--- The checks of a step, as the code makes them: a mask has as many ones as its set has stations, so 6 and 7 asked of the masks are those of
--- the sets; and a check of two parts refuses where the first that refuses does.
+-- The checks of a step, as the code makes them: a mask has as many ones as its set has stations, so 6 and 7 asked of
+-- the masks are those of the sets; and a check of two parts refuses where the first that refuses does.
 use mathlib.Core.Path.{_≡_, refl, ap, ap₂, sym, _∙_}
 use mathlib.Core.Bool.{Bool, true, false, cond}
 use mathlib.Core.List.{List}
 use Prim.Native.Nat.{ℕ, _+_, _-_, _≤_, _<_}
 use native.Mathlib.Omega.{arith}
 use lib.Count.{ones}
-use lib.Dec.{eqb, leb, ltb}
+use lib.Dec.{eqb, ltb}
 use lib.ListN.{length, getD}
 use borrow.Author.Tests.{ltb-true, eq-eqb, ne-eqb, lt-ltb, le-ltb}
 use Rattle.paper.specs.Heard as heard
@@ -14,21 +14,24 @@ use Rattle.paper.specs.Setup as setup
 use Rattle.run.specs.declared.Reply.{Reply}
 use Rattle.run.specs.declared.Reply.the-variants.{Accepted, Length, Altered, Unsafe, Full, Rules}
 use Rattle.run.specs.declared.Run.{Run}
-use Rattle.run.specs.declared.Setup.{Setup}
+use Rattle.limits.specs.declared.Setup.{Setup}
 use Rattle.run.specs.Keeps.{Keeps}
 use Rattle.run.specs.Reply.{is-accepted, _then_, or-refuse}
-use Rattle.run.specs.Run.{stations, most-rounds, is-U, sound}
+use Rattle.limits.specs.Setup.{is-U}
+use Rattle.run.specs.Run.{stations, most-rounds, sound}
 use Rattle.run.proofs.Filled.{filled-below}
 use Rattle.run.proofs.Replies.{then-on, then-stop, then-accepted, or-refuse-accepted}
 use Rattle.run.proofs.Sound.{sound-iff}
-use Rattle.hearing.specs.Masks.{mask}
-use Rattle.round.specs.Reading.{in-turn, votes-next, round-length, check-cells, heard-in}
-use Rattle.hearing.specs.Survey.{sent-next, sets-of, ho-sets, sho-sets}
+use Rattle.hearing.specs.Masks.{mask, mask-without}
+use Rattle.round.specs.Reading.{in-turn, votes-next, round-length, check-cells}
+use Rattle.round.specs.Bridge.{heard-in, sent-next, paper-setup}
+use Rattle.hearing.specs.Survey.{ho-sets, sho-sets}
+use Rattle.hearing.specs.Surveying.{sets-of}
 use Rattle.round.proofs.Turns.{turn-returns, turn-on, turn-same}
 use Rattle.hearing.proofs.Hearing.{safe-told, altered-told}
 use Rattle.judge.specs.declared.Stepped.{Stepped}
-use Rattle.judge.specs.Step.{paper-setup, altered, safe, check-altered, check-safe, check-step, accepted, refused, step-of}
-use Rattle.judge.specs.Taking.{check-room, few-in, enough-in, check-sets}
+use Rattle.judge.specs.Step.{altered, safe, check-altered, check-safe, check-step, stepped, unstepped, step-of}
+use Rattle.judge.specs.Taking.{check-room, altered-asked, safe-asked, sets-asked}
 
 -- ---- a test asked in turn, with the refusal at its place
 module _ (test : ℕ → Bool) (r : ℕ → Reply) (refuses : (i : ℕ) → is-accepted (r i) ≡ false) where
@@ -43,15 +46,16 @@ module _ (test : ℕ → Bool) (r : ℕ → Reply) (refuses : (i : ℕ) → is-a
 
 -- ---- 6, then 7
 module _ (s : Setup) (ho sho : List ℕ) where
-  pub sets-few : is-accepted (few-in s ho sho) ≡ false → few-in s ho sho ≡ check-sets s ho sho
-  unfolding check-sets
-  sets-few f = sym (then-stop (few-in s ho sho) (cond (is-U s) (enough-in s sho) Accepted) f)
+  pub sets-few : is-accepted (altered-asked s ho sho) ≡ false → altered-asked s ho sho ≡ sets-asked s ho sho
+  unfolding sets-asked
+  sets-few f = sym (then-stop (altered-asked s ho sho) (cond (is-U s) (safe-asked s sho) Accepted) f)
 
-  pub sets-enough : few-in s ho sho ≡ Accepted → (u : Bool) → u ≡ is-U s → cond u (enough-in s sho) Accepted ≡ check-sets s ho sho
-  unfolding check-sets
+  pub sets-enough : altered-asked s ho sho ≡ Accepted → (u : Bool) → u ≡ is-U s → cond u (safe-asked s sho) Accepted
+      ≡ sets-asked s ho sho
+  unfolding sets-asked
   sets-enough few u e =
-      ap (λ (b : Bool). cond b (enough-in s sho) Accepted) e
-      ∙ sym (then-on (few-in s ho sho) (cond (is-U s) (enough-in s sho) Accepted) (ap is-accepted few))
+      ap (λ (b : Bool). cond b (safe-asked s sho) Accepted) e
+      ∙ sym (then-on (altered-asked s ho sho) (cond (is-U s) (safe-asked s sho) Accepted) (ap is-accepted few))
 
 -- ---- the masks tell the sizes of the sets
 module _ (run : Run) (bs : List ℕ) (few : run .setup .n ≤ stations) where
@@ -66,15 +70,17 @@ module _ (run : Run) (bs : List ℕ) (few : run .setup .n ≤ stations) where
   unfolding sho-sets sets-of
   sho-at p l = filled-below stations n (λ p. mask n (heard.SHO (heard-in n bs p) (sent-next run))) 0 p 0 (omega arith) l
 
-  few-told : few-in (run .setup) (ho-sets n bs) (sho-sets run n bs) ≡ check-altered run bs
-  unfolding few-in check-altered
-  few-told = turn-same n _ _ (λ p l. ap (λ (k : ℕ). or-refuse (leb k (run .setup .alpha)) (Altered p)) (at p l))
+  few-told : altered-asked (run .setup) (ho-sets n bs) (sho-sets run n bs) ≡ check-altered run bs
+  unfolding altered-asked check-altered
+  few-told = turn-same n _ _ (λ p l. ap (λ (k : ℕ). or-refuse (setup.tolerated (paper-setup run) k) (Altered p))
+      (at p l))
     where
-      at : (p : ℕ) → p < n → ones (getD (ho-sets n bs) p 0 - getD (sho-sets run n bs) p 0) ≡ altered run bs p
-      at p l = rw (ho-at p l, sho-at p l) (altered-told n (heard-in n bs p) (sent-next run))
+      at : (p : ℕ) → p < n → ones (mask-without (getD (ho-sets n bs) p 0) (getD (sho-sets run n bs) p 0))
+          ≡ altered run bs p
+      at p l = rw (ho-at p l, sho-at p l) (altered-told n (heard-in n bs p) (sent-next run) few)
 
-  enough-told : cond (is-U (run .setup)) (enough-in (run .setup) (sho-sets run n bs)) Accepted ≡ check-safe run bs
-  unfolding enough-in check-safe
+  enough-told : cond (is-U (run .setup)) (safe-asked (run .setup) (sho-sets run n bs)) Accepted ≡ check-safe run bs
+  unfolding safe-asked check-safe
   enough-told =
       ap (λ (r : Reply). cond (is-U (run .setup)) r Accepted)
       (turn-same n _ _ (λ p l. ap (λ (k : ℕ). or-refuse (setup.passes-bound (paper-setup run) k) (Unsafe p)) (at p l)))
@@ -82,8 +88,8 @@ module _ (run : Run) (bs : List ℕ) (few : run .setup .n ≤ stations) where
       at : (p : ℕ) → p < n → ones (getD (sho-sets run n bs) p 0) ≡ safe run bs p
       at p l = rw (sho-at p l) (safe-told n (heard-in n bs p) (sent-next run))
 
-  sets-told : check-sets (run .setup) (ho-sets n bs) (sho-sets run n bs) ≡ (check-altered run bs then check-safe run bs)
-  unfolding check-sets
+  sets-told : sets-asked (run .setup) (ho-sets n bs) (sho-sets run n bs) ≡ (check-altered run bs then check-safe run bs)
+  unfolding sets-asked
   sets-told = ap₂ (λ (a b : Reply). a then b) few-told enough-told
 
 -- ---- the two parts are the checks of a step
@@ -118,10 +124,12 @@ module _ (run : Run) (bs : List ℕ) where
       ∙ ap (λ (r : Reply). keeps then r) (then-then room long (cells then sets-on)))
 
   -- a refusal for want of room is the step's
-  pub room-refused : {reply : Reply} → reply ≡ check-room run bs → is-accepted (check-room run bs) ≡ false → refused reply run ≡ step-of run bs
+  pub room-refused : {reply : Reply} → reply ≡ check-room run bs → is-accepted (check-room run bs) ≡ false
+      → unstepped reply run ≡ step-of run bs
   unfolding step-of
   room-refused e f =
-      let stopped : check-step run bs ≡ check-room run bs = step-parts ∙ then-stop (check-room run bs) (cells then sets-on) f in
+      let stopped : check-step run bs ≡ check-room run bs = step-parts
+      ∙ then-stop (check-room run bs) (cells then sets-on) f in
       rw (stopped, f, e)
 
   -- and so is the first check that fails
@@ -133,17 +141,19 @@ module _ (run : Run) (bs : List ℕ) where
   unfolding check-room
   room-full e l = rw (e, le-ltb (run .clock) most-rounds l)
 
-  pub room-length : sound run ≡ true → run .clock < most-rounds → (length bs ≡ round-length (run .setup .n) → ⊥) → Length ≡ check-room run bs
+  pub room-length : sound run ≡ true → run .clock < most-rounds → (length bs ≡ round-length (run .setup .n) → ⊥)
+      → Length ≡ check-room run bs
   unfolding check-room
   room-length e l h = rw (e, lt-ltb (run .clock) most-rounds l, ne-eqb _ _ h)
 
-  pub room-there : sound run ≡ true → run .clock < most-rounds → length bs ≡ round-length (run .setup .n) → Accepted ≡ check-room run bs
+  pub room-there : sound run ≡ true → run .clock < most-rounds → length bs ≡ round-length (run .setup .n) → Accepted
+      ≡ check-room run bs
   unfolding check-room
   room-there e l h = rw (e, lt-ltb (run .clock) most-rounds l, eq-eqb _ _ h)
 
   module _ (there : check-room run bs ≡ Accepted) where
     -- a run with room keeps the rules and is not full
-    pub room-keeps : Keeps run × (run .clock < 4096)
+    pub room-keeps : Keeps run × (run .clock < most-rounds)
     unfolding check-room
     room-keeps =
         let (first, after-first) = then-accepted keeps (room then long) there in
@@ -152,24 +162,27 @@ module _ (run : Run) (bs : List ℕ) where
           ltb-true (run .clock) most-rounds (or-refuse-accepted (ltb (run .clock) most-rounds) Full refl second),
         )
 
-    -- a record that is refused gives the step's refusal
-    pub cells-refused : {reply : Reply} → reply ≡ cells → is-accepted cells ≡ false → refused reply run ≡ step-of run bs
+    -- a record that is unstepped gives the step's refusal
+    pub cells-refused : {reply : Reply} → reply ≡ cells → is-accepted cells ≡ false → unstepped reply run
+        ≡ step-of run bs
     unfolding step-of
     cells-refused e f =
         let stopped : check-step run bs ≡ cells = step-parts ∙ rw there (then-stop cells sets-on f) in
         rw (stopped, f, e)
 
     -- then 6 and 7 are the step's checks that are left
-    module _ (good : cells ≡ Accepted) (ho sho : List ℕ) (heard : ho ≡ ho-sets (run .setup .n) bs) (safely : sho ≡ sho-sets run (run .setup .n) bs) where
-      sets-step : check-sets (run .setup) ho sho ≡ check-step run bs
+    module _ (good : cells ≡ Accepted) (ho sho : List ℕ) (heard : ho ≡ ho-sets (run .setup .n) bs) (safely : sho
+        ≡ sho-sets run (run .setup .n) bs) where
+      sets-step : sets-asked (run .setup) ho sho ≡ check-step run bs
       sets-step = rw (heard, safely, step-parts, there, good) (sets-told run bs (room-keeps .0 .setup .n-to))
 
-      pub sets-refused : {reply : Reply} → reply ≡ check-sets (run .setup) ho sho → is-accepted (check-sets (run .setup) ho sho) ≡ false
-          → refused reply run ≡ step-of run bs
+      pub sets-refused : {reply : Reply} → reply ≡ sets-asked (run .setup) ho sho
+          → is-accepted (sets-asked (run .setup) ho sho) ≡ false
+          → unstepped reply run ≡ step-of run bs
       unfolding step-of
       sets-refused e f = rw (← sets-step, f, e)
 
-      pub sets-accepted : check-sets (run .setup) ho sho ≡ Accepted → accepted run bs ≡ step-of run bs
+      pub sets-accepted : sets-asked (run .setup) ho sho ≡ Accepted → stepped run bs ≡ step-of run bs
       unfolding step-of
       sets-accepted e = rw (← sets-step, e)
 

@@ -1,11 +1,8 @@
 -- Laws about the definitions of specs/.
-pub mod Stations
-pub mod Outcomes
-pub mod Countings
-pub mod Checks
-pub mod Advances
-pub mod Cuts
-pub mod Plays
-pub mod After
-pub mod Steps
-pub mod Machines
+pub mod Stations  -- what the run after a round holds of each station
+pub mod After  -- the run after a round keeps the rules
+pub mod Machines  -- and fits its machine types
+pub mod Steps  -- what an accepted step says, and what a step leaves
+pub mod Checks  -- the checks as the code makes them
+pub mod Countings  -- the rows of a round, counted
+pub mod Advances  -- the stations told one by one

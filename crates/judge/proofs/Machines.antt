@@ -1,36 +1,35 @@
--- The run after a round fits its machine types again: what a station then holds is 0, the default, what a station held before, a value of the round, which
--- stands in four bytes, or the round's number.
+-- The run after a round fits its machine types again: what a station then holds is 0, the default, what a station held
+-- before, a value of the round, which stands in four bytes, or the round's number.
 use mathlib.Core.Path.{_≡_, refl, subst}
 use mathlib.Core.Bool.{Bool, true, false, _&&_, cond}
 use mathlib.Core.List.{List}
 use mathlib.Core.Option.{Option, none, some}
 use Prim.Native.Nat.{ℕ, _+_, _*_, _^_, _<_}
 use native.Mathlib.Omega.{arith}
-use borrow.Author.Tests.{ltb-true, ltb-false}
 use lib.Dec.{eqb, ltb}
 use lib.ListN.{getD}
 use Rattle.paper.specs.Stations.{size}
 use Rattle.paper.specs.Heard as heard
 use Rattle.paper.specs.Setup as setup
 use Rattle.paper.specs.Rules as rules
+use Rattle.paper.proofs.After.{after-estimate, after-vote, after-decision}
 use Rattle.paper.proofs.Smallest.{smallest-some}
 use Rattle.run.specs.declared.Run.{Run}
 use Rattle.run.specs.declared.record.Record.{Record}
-use Rattle.run.specs.declared.Station.{Station}
 use Rattle.run.specs.Bytes.{IsBytes}
-use Rattle.run.specs.Record.{recordAt}
-use Rattle.run.specs.Run.{stations, setup-of}
-use Rattle.run.specs.Filled.{filled}
-use Rattle.run.specs.Machine.{Words, Machine}
+use Rattle.run.specs.Kinds as kind
+use Rattle.run.specs.Record.{record-bytes, record-at}
+use Rattle.limits.specs.Setup.{setup-of}
+use Rattle.run.specs.Run.{most-rounds}
+use Rattle.run.specs.Machine.{Machine}
+use Rattle.run.proofs.Built.{Fits-words, built-machine}
 use Rattle.run.proofs.Bytes.{bytes-take, bytes-drop}
-use Rattle.run.proofs.Records.{recordAt-fits}
-use Rattle.run.proofs.Blocks.{past-end}
-use Rattle.run.proofs.Filled.{length-filled, getD-filled}
+use Rattle.run.proofs.Records.{record-at-fits}
 use Rattle.round.specs.declared.Cell.the-variants as cell
-use Rattle.round.specs.Cells.{paper-cell, cell-in}
-use Rattle.round.specs.Reading.{row-part, cells, heard-in}
-use Rattle.hearing.specs.Survey.{station}
-use Rattle.judge.specs.Step.{paper-setup, value-in, decision-in, round-in, station-after, entries-after, run-after}
+use Rattle.round.specs.Bridge.{paper-cell, heard-in, station, value-in, decision-in, round-in, paper-setup}
+use Rattle.round.specs.Cells.{cell-in}
+use Rattle.round.specs.Reading.{row-part}
+use Rattle.judge.specs.Step.{station-after, entries-after, run-after}
 
 -- 32 bits hold the value, where there is one
 abbrev Small : Option ℕ → Type 0
@@ -48,9 +47,10 @@ SmallRow row = (q : ℕ) → SmallCell (row q)
 -- ---- the cells of a round
 cell-small : (r : Record) → r .number < 2 ^ 32 → SmallCell (paper-cell (cell-in r))
 unfolding cell-in
-cell-small r h = go (eqb (r .kind) 4) (eqb (r .kind) 5)
+cell-small r h = go (eqb (r .kind) kind.HEARD) (eqb (r .kind) kind.HEARD-QUERY)
   where
-    go : (value query : Bool) → SmallCell (paper-cell (cond value (cell.Value (r .number)) (cond query cell.Query cell.Lost)))
+    go : (value query : Bool)
+        → SmallCell (paper-cell (cond value (cell.Value (r .number)) (cond query cell.Query cell.Lost)))
     go true query = h
     go false true = tt
     go false false = tt
@@ -59,8 +59,9 @@ heard-small : (n : ℕ) (bs : List ℕ) (p : ℕ) → IsBytes bs → SmallRow (h
 unfolding heard-in row-part
 heard-small n bs p bytes q = go (ltb p n && ltb q n)
   where
-    go : (b : Bool) → SmallCell (paper-cell (cond b (cell-in (recordAt (row-part n bs p) q)) cell.Lost))
-    go true = cell-small (recordAt (row-part n bs p) q) (recordAt-fits q (bytes-take (8 * n) (bytes-drop (8 * n * p) bytes)) .number)
+    go : (b : Bool) → SmallCell (paper-cell (cond b (cell-in (record-at (row-part n bs p) q)) cell.Lost))
+    go true = cell-small (record-at (row-part n bs p) q)
+        (record-at-fits q (bytes-take (record-bytes * n) (bytes-drop (record-bytes * n * p) bytes)) .number)
     go false = tt
 
 -- ---- what the rules make of a station
@@ -77,10 +78,11 @@ module _ (row : heard.Row) (small : SmallRow row) where
   or-else-small none x s h = h
   or-else-small (some v) x s h = s
 
-  estimate-small : (S : setup.Setup) (default : ℕ) (k : rules.Kind) (s : rules.Station) → default < 2 ^ 32 → s .estimate < 2 ^ 32
+  estimate-small : (S : setup.Setup) (default : ℕ) (k : rules.Kind) (s : rules.Station) → default < 2 ^ 32
+      → s .estimate < 2 ^ 32
       → rules.next-estimate S default k s row < 2 ^ 32
   unfolding rules.next-estimate
-  estimate-small S default rules.update s d h = go (setup.passesT S (size (S .n) (heard.HO row)))
+  estimate-small S default rules.update s d h = go (setup.passes-T S (size (S .n) (heard.HO row)))
     where
       found : Option ℕ
       found = rules.smallest (S .n) row (rules.most-often (S .n) row)
@@ -93,16 +95,18 @@ module _ (row : heard.Row) (small : SmallRow row) where
       let test : ℕ → Bool = λ v. setup.vouched S (rules.times (S .n) row v) in
       or-else-small (rules.smallest (S .n) row test) default (smallest-small (S .n) test) d
 
-  vote-or-else-small : (o : Option ℕ) (m : heard.Message) → Small o → value-in m < 2 ^ 32 → value-in (rules.vote-or-else o m) < 2 ^ 32
+  vote-or-else-small : (o : Option ℕ) (m : heard.Message) → Small o → value-in m < 2 ^ 32
+      → value-in (rules.vote-or-else o m) < 2 ^ 32
   unfolding rules.vote-or-else
   vote-or-else-small none m s h = h
   vote-or-else-small (some v) m s h = s
 
-  vote-small : (S : setup.Setup) (k : rules.Kind) (s : rules.Station) → value-in (s .vote) < 2 ^ 32 → value-in (rules.next-vote S k s row) < 2 ^ 32
+  vote-small : (S : setup.Setup) (k : rules.Kind) (s : rules.Station) → value-in (s .vote) < 2 ^ 32
+      → value-in (rules.next-vote S k s row) < 2 ^ 32
   unfolding rules.next-vote
   vote-small S rules.update s h = h
   vote-small S rules.value s h =
-      let test : ℕ → Bool = λ v. setup.passesT S (rules.times (S .n) row v) in
+      let test : ℕ → Bool = λ v. setup.passes-T S (rules.times (S .n) row v) in
       vote-or-else-small (rules.smallest (S .n) row test) (s .vote) (smallest-small (S .n) test) h
   vote-small S rules.vote s h = omega arith
 
@@ -111,38 +115,32 @@ module _ (row : heard.Row) (small : SmallRow row) where
   fired-small S k = go (rules.deciding k)
     where
       test : ℕ → Bool
-      test v = setup.passesE S (rules.times (S .n) row v)
+      test v = setup.passes-E S (rules.times (S .n) row v)
 
       go : (b : Bool) → Small (cond b (rules.smallest (S .n) row test) none)
       go true = smallest-small (S .n) test
       go false = tt
 
-keep-small : (d : rules.Decision) (r : ℕ) (f : Option ℕ) → decision-in d < 2 ^ 32 → Small f → decision-in (rules.keep d r f) < 2 ^ 32
+keep-small : (d : rules.Decision) (r : ℕ) (f : Option ℕ) → decision-in d < 2 ^ 32 → Small f
+    → decision-in (rules.keep d r f) < 2 ^ 32
 unfolding rules.keep
 keep-small rules.undecided r none h s = h
 keep-small rules.undecided r (some v) h s = s
 keep-small (rules.decided v r₀) r f h s = h
 
-keep-round : (d : rules.Decision) (r : ℕ) (f : Option ℕ) → round-in d < 2 ^ 32 → r < 2 ^ 32 → round-in (rules.keep d r f) < 2 ^ 32
+keep-round : (d : rules.Decision) (r : ℕ) (f : Option ℕ) → round-in d < 2 ^ 32 → r < 2 ^ 32
+    → round-in (rules.keep d r f) < 2 ^ 32
 unfolding rules.keep
 keep-round rules.undecided r none h s = h
 keep-round rules.undecided r (some v) h s = s
 keep-round (rules.decided v r₀) r f h s = h
 
--- ---- an array filled with such numbers
-words-filled : (n : ℕ) (f : ℕ → ℕ) → ((p : ℕ) → f p < 2 ^ 32) → Words (filled stations n f 0)
-words-filled n f small = record { long = length-filled stations n f 0; below = λ i. go i (ltb i stations) refl }
-  where
-    at : (i : ℕ) (b : Bool) → cond b (f i) 0 < 2 ^ 32
-    at i true = small i
-    at i false = omega arith
-
-    go : (i : ℕ) (b : Bool) → ltb i stations ≡ b → getD (filled stations n f 0) i 0 < 2 ^ 32
-    go i true q = rw (getD-filled stations n f 0 i 0 (ltb-true _ _ q)) (at i (ltb i n))
-    go i false q = rw (← past-end stations (filled stations n f 0) 0 i (length-filled stations n f 0) (ltb-false _ _ q)) (omega arith)
-
 -- ---- the run after a round
-module _ (run : Run) (bs : List ℕ) (machine : Machine run) (room : run .clock < 4096) (bytes : IsBytes bs) where
+module _ (run : Run) (bs : List ℕ) (machine : Machine run) (room : run .clock < most-rounds) (bytes : IsBytes bs) where
+  estimate-before : (p : ℕ) → station run p .estimate < 2 ^ 32
+  unfolding station
+  estimate-before p = machine .estimates .below p
+
   vote-before : (p : ℕ) → value-in (station run p .vote) < 2 ^ 32
   unfolding station
   vote-before p = go (getD (run .voted) p false)
@@ -151,7 +149,8 @@ module _ (run : Run) (bs : List ℕ) (machine : Machine run) (room : run .clock 
       go true = machine .votes .below p
       go false = omega arith
 
-  decision-before : (p : ℕ) → (decision-in (station run p .decision) < 2 ^ 32) × (round-in (station run p .decision) < 2 ^ 32)
+  decision-before : (p : ℕ) → (decision-in (station run p .decision) < 2 ^ 32)
+      × (round-in (station run p .decision) < 2 ^ 32)
   unfolding station
   decision-before p = go (getD (run .decided) p false)
     where
@@ -162,25 +161,33 @@ module _ (run : Run) (bs : List ℕ) (machine : Machine run) (room : run .clock 
       go true = (machine .decisions .below p, machine .rounds .below p)
       go false = (omega arith, omega arith)
 
-  pub machine-after : Machine (run-after run bs)
-  unfolding run-after station-after rules.after setup-of station
-  machine-after =
+  -- what a station then holds
+  small-after : (p : ℕ) → Fits-words (entries-after run bs p)
+  unfolding station-after setup-of
+  small-after p =
       let n : ℕ = run .setup .n in
       let S : setup.Setup = paper-setup run in
-      let e : ℕ → Station = entries-after run bs in
-      let k : rules.Kind = rules.kind-of (S .algorithm) (run .clock + 1) in
-      let row : ℕ → heard.Row = λ p. heard-in n bs p in
-      let small : (p : ℕ) → SmallRow (row p) = λ p. heard-small n bs p bytes in
-      let fired : ℕ → Option ℕ = λ p. rules.fired S k (row p) in
-      record {
-        default = machine .default;
-        estimates = words-filled n (λ p. e p .estimate) (λ p. estimate-small (row p) (small p) S (run .default) k (station run p) (machine .default) (machine .estimates .below p));
-        voted = length-filled stations n (λ p. e p .voted) false;
-        votes = words-filled n (λ p. e p .vote) (λ p. vote-small (row p) (small p) S k (station run p) (vote-before p));
-        decided = length-filled stations n (λ p. e p .decided) false;
-        decisions =
-            words-filled n (λ p. e p .decision)
-            (λ p. keep-small (station run p .decision) (run .clock + 1) (fired p) (decision-before p .0) (fired-small (row p) (small p) S k));
-        rounds =
-            words-filled n (λ p. e p .round) (λ p. keep-round (station run p .decision) (run .clock + 1) (fired p) (decision-before p .1) (omega arith));
-      }
+      let r : ℕ = run .clock + 1 in
+      let k : rules.Kind = rules.kind-of (S .algorithm) r in
+      let row : heard.Row = heard-in n bs p in
+      let small : SmallRow row = heard-small n bs p bytes in
+      let s : rules.Station = station run p in
+      rw (
+        after-estimate S (run .default) r s row,
+        after-vote S (run .default) r s row,
+        after-decision S
+            (run .default) r s row,
+      )
+      (record {
+        estimate = estimate-small row small S (run .default) k s (machine .default) (estimate-before p);
+        vote = vote-small row small S k s (vote-before p);
+        decision = keep-small (s .decision) r (rules.fired S k row) (decision-before p .0) (fired-small row small S k);
+        round = keep-round (s .decision) r (rules.fired S k row) (decision-before p .1) (omega arith);
+      })
+
+  pub machine-after : Machine (run-after run bs)
+  unfolding run-after
+  machine-after =
+      built-machine (run .setup) (run .default) (run .clock + 1) (run .setup .n) (entries-after run bs)
+      (machine .default)
+      (λ p below. small-after p)

@@ -1,4 +1,4 @@
-// The rows of a round, each read once: its records checked, its sets, and how often its values came (document 01, "Who heard whom").
+// The rows of a round, each read once: its records checked, its sets, and how often its values came (rules 7).
 ghost use mathlib.Core.Path.{_≡_};
 ghost use Prim.Native.Nat.{_≤_};
 ghost use Rattle.run.specs.Run.{stations};
@@ -31,7 +31,8 @@ fn uncounted(reply: Reply) -> Counted
     }
 }
 
-// Reads the rows in order: the first record at fault, or the sets and the count of each row. `voting`: this is a vote round.
+// Reads the rows in order: the first record at fault, or the sets and the count of each row. `voting`: this is a vote
+// round.
 pub(crate) fn count_rows(run: Run, round: &[u8], voting: bool) -> Counted
     requires { ⌜ run .setup .n ≤ stations ⌝ }
     ensures { λ r. ⌜ r ≡ rows-counted voting run (now (round .entry)) ⌝ }
@@ -39,7 +40,6 @@ pub(crate) fn count_rows(run: Run, round: &[u8], voting: bool) -> Counted
     let setup = run.setup;
     let n = setup.n;
     let last = n as usize;
-    let enough = setup.alpha as u32 + 1;
     let sent = heard::prescribed(voting, run);
     let mut counted = uncounted(Reply::Accepted);
     let mut p: usize = 0;
@@ -54,7 +54,7 @@ pub(crate) fn count_rows(run: Run, round: &[u8], voting: bool) -> Counted
         let sets = heard::sets_of(cells, sent, n);
         counted.ho[p] = sets.ho;
         counted.sho[p] = sets.sho;
-        counted.tallies[p] = count::tally(cells, n, enough);
+        counted.tallies[p] = count::tally(cells, setup);
         p += 1;
     }
     counted

@@ -1,149 +1,38 @@
-// One round taken: its checks in order, and what becomes of each station (document 01, "What the judge replies", "Algorithm A", "Algorithm U").
+// One round taken: its checks in order, and what becomes of each station (rules 9.11 and 12.8).
 ghost use mathlib.Core.Path.{_≡_};
-ghost use mathlib.Core.Bool.{cond};
 ghost use Prim.Native.Nat.{_≤_, _<_};
 ghost use Rattle.run.specs.Run.{stations, most-rounds};
 ghost use Rattle.run.specs.declared.Reply.the-variants.{Accepted};
 ghost use Rattle.round.specs.Reading.{votes-next};
-ghost use Rattle.judge.specs.Step.{refused, step-of};
-ghost use Rattle.judge.specs.Taking.{check-room, few-in, enough-in, check-sets, begun, advanced};
-ghost use Rattle.judge.specs.Outcome.{moves, next-estimate, casts, with-vote, deciding, rule-fires, with-decision, told};
+ghost use Rattle.judge.specs.Step.{unstepped, step-of};
+ghost use Rattle.judge.specs.Taking.{check-room, altered-asked, safe-asked, sets-asked, begun, advanced};
 use super::Counted;
-use super::Outcome;
 use super::Stepped;
 use super::rows;
 use hearing::Sets;
-use hearing::Tally;
-use hearing::guard;
 use hearing::heard;
+use limits::Setup;
+use limits::guard;
+use limits::is_u;
+use outcome::outcome_of;
 use round::read;
 use run::Reply;
 use run::Run;
-use run::Setup;
 use run::Station;
-use run::setups;
-
-// Whether A's rule moves the estimate: enough were heard, and a value was received.
-fn moves(setup: Setup, ho: u32, t: Tally) -> bool
-    ensures { λ r. ⌜ r ≡ moves setup ho t ⌝ }
-{
-    guard::passes_t(setup, ho) && t.senders != 0
-}
-
-// The estimate after the round, from the tally of the station's row. `votes`: this is a vote round.
-fn next_estimate(setup: Setup, default: u32, votes: bool, estimate: u32, ho: u32, t: Tally) -> u32
-    ensures { λ r. ⌜ r ≡ next-estimate setup default votes estimate ho t ⌝ }
-{
-    if votes {
-        return if t.found { t.least } else { default };
-    }
-    if setups::is_u(setup) {
-        return estimate;
-    }
-    if moves(setup, ho, t) {
-        t.value
-    } else {
-        estimate
-    }
-}
-
-// Whether a value round casts a vote.
-fn casts(setup: Setup, t: Tally) -> bool
-    ensures { λ r. ⌜ r ≡ casts setup t ⌝ }
-{
-    setups::is_u(setup) && guard::passes_t(setup, t.senders)
-}
-
-// The station with its vote after the round: none after a vote round, and after a value round the one cast, if any.
-fn with_vote(setup: Setup, votes: bool, t: Tally, s: Station) -> Station
-    ensures { λ r. ⌜ r ≡ with-vote setup votes t s ⌝ }
-{
-    let mut next = s;
-    if votes {
-        next.voted = false;
-        next.vote = 0;
-        return next;
-    }
-    if casts(setup, t) {
-        next.voted = true;
-        next.vote = t.value;
-    }
-    next
-}
-
-// The rounds in which a station may decide: every round of A, and the vote rounds of U.
-fn deciding(setup: Setup, votes: bool) -> bool
-    ensures { λ r. ⌜ r ≡ deciding setup votes ⌝ }
-{
-    votes || !setups::is_u(setup)
-}
-
-// Whether the decide rule fires.
-fn rule_fires(setup: Setup, votes: bool, t: Tally) -> bool
-    ensures { λ r. ⌜ r ≡ rule-fires setup votes t ⌝ }
-{
-    deciding(setup, votes) && guard::passes_e(setup, t.senders)
-}
-
-// The station with its decision after the round: the first is kept with its round, and a later firing changes nothing.
-fn with_decision(number: u32, fires: bool, v: u32, s: Station) -> Station
-    ensures { λ r. ⌜ r ≡ with-decision number fires v s ⌝ }
-{
-    if s.decided {
-        return s;
-    }
-    let mut next = s;
-    if fires {
-        next.decided = true;
-        next.decision = v;
-        next.round = number;
-    }
-    next
-}
-
-// The value where there is one, else 0.
-fn value_if(there: bool, v: u32) -> u32
-    ensures { λ r. ⌜ r ≡ cond there v 0 ⌝ }
-{
-    if there { v } else { 0 }
-}
-
-// What round `number` makes of one station that heard these, with this count of its row, and what fires at it.
-fn outcome(
-    setup: Setup,
-    default: u32,
-    number: u32,
-    votes: bool,
-    s: Station,
-    ho: u32,
-    t: Tally,
-) -> Outcome
-    ensures { λ r. ⌜ r ≡ told setup default number votes s ho t ⌝ }
-{
-    let fires = rule_fires(setup, votes, t);
-    let mut next = s;
-    next.estimate = next_estimate(setup, default, votes, s.estimate, ho, t);
-    let station = with_decision(number, fires, t.value, with_vote(setup, votes, t, next));
-    Outcome {
-        station,
-        fires,
-        fired: value_if(fires, t.value),
-    }
-}
 
 // Refuses with 6 at the lowest receiver for which too many cells were altered.
-fn check_altered(setup: Setup, ho: [u32; Run::STATIONS], sho: [u32; Run::STATIONS]) -> Reply
+fn ask_altered(setup: Setup, ho: [u32; Run::STATIONS], sho: [u32; Run::STATIONS]) -> Reply
     requires { ⌜ setup .n ≤ stations ⌝ }
-    ensures { λ r. ⌜ r ≡ few-in setup ho sho ⌝ }
+    ensures { λ r. ⌜ r ≡ altered-asked setup ho sho ⌝ }
 {
     let n = setup.n as usize;
-    let mut p: usize = 0;
+    let mut p: usize = 0; // the lowest receiver first
     while p < n {
         let sets = Sets {
             ho: ho[p],
             sho: sho[p],
         };
-        if !guard::few_altered(setup, heard::altered(sets)) {
+        if !guard::tolerated(setup, heard::altered(sets)) {
             return Reply::Altered(p as u32);
         }
         p += 1;
@@ -152,9 +41,9 @@ fn check_altered(setup: Setup, ho: [u32; Run::STATIONS], sho: [u32; Run::STATION
 }
 
 // Refuses with 7 at the lowest receiver that heard too few safely.
-fn check_safe(setup: Setup, sho: [u32; Run::STATIONS]) -> Reply
+fn ask_safe(setup: Setup, sho: [u32; Run::STATIONS]) -> Reply
     requires { ⌜ setup .n ≤ stations ⌝ }
-    ensures { λ r. ⌜ r ≡ enough-in setup sho ⌝ }
+    ensures { λ r. ⌜ r ≡ safe-asked setup sho ⌝ }
 {
     let n = setup.n as usize;
     let mut p: usize = 0;
@@ -168,16 +57,16 @@ fn check_safe(setup: Setup, sho: [u32; Run::STATIONS]) -> Reply
 }
 
 // 6 over all receivers, then under U 7.
-fn check_sets(setup: Setup, ho: [u32; Run::STATIONS], sho: [u32; Run::STATIONS]) -> Reply
+fn ask_sets(setup: Setup, ho: [u32; Run::STATIONS], sho: [u32; Run::STATIONS]) -> Reply
     requires { ⌜ setup .n ≤ stations ⌝ }
-    ensures { λ r. ⌜ r ≡ check-sets setup ho sho ⌝ }
+    ensures { λ r. ⌜ r ≡ sets-asked setup ho sho ⌝ }
 {
-    let reply = check_altered(setup, ho, sho);
+    let reply = ask_altered(setup, ho, sho);
     if reply.number() != 0 {
         return reply;
     }
-    if setups::is_u(setup) {
-        return check_safe(setup, sho);
+    if is_u(setup) {
+        return ask_safe(setup, sho);
     }
     Reply::Accepted
 }
@@ -200,8 +89,8 @@ fn check_room(run: Run, round: &[u8]) -> Reply
 }
 
 // What a refused round answers: the run handed in, no firing and empty sets.
-fn refused(reply: Reply, run: Run) -> Stepped
-    ensures { λ r. ⌜ r ≡ refused reply run ⌝ }
+fn unstepped(reply: Reply, run: Run) -> Stepped
+    ensures { λ r. ⌜ r ≡ unstepped reply run ⌝ }
 {
     Stepped {
         reply,
@@ -225,7 +114,8 @@ fn begun(run: Run, number: u32) -> Run
     next
 }
 
-// The run after a round that passed every check: each station's outcome, from what the run holds of it and what its row tells.
+// The run after a round that passed every check: each station's outcome, from what the run holds of it and what its row
+// tells.
 fn advance(run: Run, voting: bool, counted: Counted) -> Stepped
     requires { ⌜ (run .setup .n ≤ stations) × (run .clock < most-rounds) ⌝ }
     ensures { λ r. ⌜ r ≡ advanced run voting counted ⌝ }
@@ -248,7 +138,7 @@ fn advance(run: Run, voting: bool, counted: Counted) -> Stepped
         };
         let ho = counted.ho[p];
         let tally = counted.tallies[p];
-        let o = outcome(setup, run.default, number, voting, s, ho, tally);
+        let o = outcome_of(setup, run.default, number, voting, s, ho, tally);
         next.estimates[p] = o.station.estimate;
         next.voted[p] = o.station.voted;
         next.votes[p] = o.station.vote;
@@ -280,13 +170,13 @@ fn take(run: Run, round: &[u8], voting: bool) -> Stepped
     let counted = rows::count_rows(run, round, voting);
     let records = counted.reply;
     if records.number() != 0 {
-        return refused(records, run);
+        return unstepped(records, run);
     }
     let ho = counted.ho;
     let sho = counted.sho;
-    let reply = check_sets(setup, ho, sho);
+    let reply = ask_sets(setup, ho, sho);
     if reply.number() != 0 {
-        return refused(reply, run);
+        return unstepped(reply, run);
     }
     advance(run, voting, counted)
 }
@@ -297,7 +187,7 @@ pub fn step(run: Run, round: &[u8]) -> Stepped
 {
     let reply = check_room(run, round);
     if reply.number() != 0 {
-        return refused(reply, run);
+        return unstepped(reply, run);
     }
     let setup = run.setup;
     take(run, round, rules::may_vote(setup, run.clock))

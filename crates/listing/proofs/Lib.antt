@@ -1,3 +1,2 @@
--- Laws about the definitions that the contracts cite.
-pub mod Putting
-pub mod Runs
+-- Laws about what the program holds.
+pub mod Runs  -- the run that is listed keeps the rules of a run

@@ -1,18 +1,19 @@
-// The longest tape there is to play, 4,096 rounds, under U with two stations that hear each other: what it takes of the stack is measured.
+// The longest tape there is to play, 4,096 rounds, under U with two stations that hear each other: what it takes of the
+// stack is measured.
 use libc::STDOUT_FILENO;
+use limits::Setup;
+use put::opening;
+use put::records;
 use run::Run;
-use run::Setup;
-use run::record;
+use run::kinds;
 use run::record::Record;
 
 const CELLS: usize = 16384; // four in each round
 
-const VALUE: u8 = 4; // the kind of a cell that has a value
-
 // Record i of the tape: of receivers 0, 0, 1, 1 and senders 0, 1, 0, 1 in each round, always with the value 7.
 fn cell(i: usize) -> Record {
     Record {
-        kind: VALUE,
+        kind: kinds::HEARD,
         first: (i / 2 % 2) as u8,
         second: (i % 2) as u8,
         third: 0,
@@ -23,7 +24,7 @@ fn cell(i: usize) -> Record {
 fn fill(tape: &mut [u8]) {
     let mut i: usize = 0;
     while i < CELLS {
-        record::put_record(tape, i, cell(i));
+        records::put_record(tape, i, cell(i));
         i += 1;
     }
 }
@@ -41,7 +42,7 @@ fn opened() -> Run {
         alpha: 0,
     };
     let mut opening = [0u8; 32];
-    Run::write_opening(setup, 0, starts, &mut opening);
+    opening::write_opening(setup, 0, starts, &mut opening);
     let o = Run::open(&opening);
     o.run
 }

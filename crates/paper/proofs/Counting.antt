@@ -1,11 +1,12 @@
--- Counting, once, over the number of stations and any sets of them: an inequality that holds at each station holds of the sizes,
--- since a size is the sum of what each station adds.
+-- Counting, once, over the number of stations and any sets of them: an inequality that holds at each station holds of
+-- the sizes, since a size is the sum of what each station adds.
 use mathlib.Core.Path.{_≡_, refl, ap, _∙_, sym}
 use mathlib.Core.Bool.{Bool, true, false, _&&_, false≢true}
 use mathlib.Core.List.{List, [], _∷_}
-use mathlib.Core.Logic.{_⊎_, ⊎-elim}
+use mathlib.Core.Logic.{_⊎_, _≢_, ⊎-elim}
 use Prim.Native.Nat.{ℕ, zero, suc, _+_, _≤_, _<_}
 use native.Mathlib.Nat.{le-refl, le-of-suc-le-suc, eq-or-lt-of-le}
+use native.Mathlib.Decide.{ℕ-discrete}
 use native.Mathlib.Omega.{arith}
 use Rattle.paper.specs.Stations.{Stations, _∈_, one, size, All, every}
 
@@ -94,6 +95,14 @@ size-cong zero X Y at = refl
 size-cong (suc n) X Y at =
     let here : one (X n) ≡ one (Y n) = ap one (at n (le-refl (suc n))) in
     omega (arith, size-cong n X Y (λ q h. at q (omega arith)))
+
+-- two numbers whose difference is absurd are equal
+pub agree : (v w : ℕ) → (v ≢ w → ⊥) → v ≡ w
+agree v w h = go (ℕ-discrete v w)
+  where
+    go : Dec (v ≡ w) → v ≡ w
+    go (yes e) = e
+    go (no apart) = absurd (h apart)
 
 pub both : (a b : Bool) → a && b ≡ true → (a ≡ true) × (b ≡ true)
 both true b e = (refl, e)

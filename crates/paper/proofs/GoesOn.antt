@@ -1,5 +1,5 @@
--- Runs there are, of every length: the empty run is one, and a run goes on with any matrix, its stations by their rule. So what is said
--- of all runs is said of something.
+-- Runs there are, of every length: the empty run is one, and a run goes on with any matrix, its stations by their rule.
+-- So what is said of all runs is said of something.
 use mathlib.Core.Path.{_≡_, refl, ap, _∙_}
 use mathlib.Core.List.{List, [], _∷_, _++_}
 use Prim.Native.Nat.{ℕ, suc, _+_}
@@ -18,7 +18,8 @@ pub record Goes-on (S : Setup) (default : ℕ) (starts : ℕ → ℕ) (ts : List
   pub is-run : Run S default starts (ts ++ (next ∷ []))
 
 abbrev taken : Setup → ℕ → ℕ → States → Matrix → Turn
-taken S default k s m = record { number = suc k; before = s; heard = m; after = λ p. after S default (suc k) (s p) (m p) }
+taken S default k s m =
+    record { number = suc k; before = s; heard = m; after = λ p. after S default (suc k) (s p) (m p) }
 
 abbrev next-of : Setup → ℕ → ℕ → States → List Turn → Matrix → Turn
 next-of S default k s [] m = taken S default k s m
@@ -28,18 +29,22 @@ of : (S : Setup) (default k : ℕ) (s : States) (ts : List Turn) (m : Matrix) �
 of S default k s [] m = refl
 of S default k s (t ∷ ts) m = of S default (suc k) (t .after) ts m
 
-num : (S : Setup) (default k : ℕ) (s : States) (ts : List Turn) (m : Matrix) → next-of S default k s ts m .number ≡ suc (length ts + k)
+num : (S : Setup) (default k : ℕ) (s : States) (ts : List Turn) (m : Matrix)
+    → next-of S default k s ts m .number ≡ suc (length ts + k)
 num S default k s [] m = omega arith
 num S default k s (t ∷ ts) m = omega (arith, num S default (suc k) (t .after) ts m)
 
-on : (S : Setup) (default k : ℕ) (s : States) (ts : List Turn) (m : Matrix) → Rounds S default k s ts → Rounds S default k s (ts ++ (next-of S default k s ts m ∷ []))
+on : (S : Setup) (default k : ℕ) (s : States) (ts : List Turn) (m : Matrix) → Rounds S default k s ts
+    → Rounds S default k s (ts ++ (next-of S default k s ts m ∷ []))
 unfolding Rounds
 on S default k s [] m r = (record { counted = refl; from = λ p h. refl; by-rule = λ p h. refl }, tt)
 on S default k s (t ∷ ts) m r = (r .0, on S default (suc k) (t .after) ts m (r .1))
 
 ruled : (S : Setup) (default k : ℕ) (s : States) (ts : List Turn) (m : Matrix) (p : ℕ)
-    → next-of S default k s ts m .after p ≡ after S default (suc (length ts + k)) (next-of S default k s ts m .before p) (m p)
-ruled S default k s [] m p = let e : suc k ≡ suc (0 + k) = omega arith in ap (λ (r : ℕ). after S default r (s p) (m p)) e
+    → next-of S default k s ts m .after p
+    ≡ after S default (suc (length ts + k)) (next-of S default k s ts m .before p) (m p)
+ruled S default k s [] m p =
+    let e : suc k ≡ suc (0 + k) = omega arith in ap (λ (r : ℕ). after S default r (s p) (m p)) e
 ruled S default k s (t ∷ ts) m p =
     let e : suc (length ts + suc k) ≡ suc (suc (length ts) + k) = omega arith in
     ruled S default (suc k) (t .after) ts m p
@@ -49,7 +54,8 @@ pub opens : (S : Setup) (default : ℕ) (starts : ℕ → ℕ) → Run S default
 unfolding Run
 opens S default starts = tt
 
-pub goes-on : (S : Setup) (default : ℕ) (starts : ℕ → ℕ) (ts : List Turn) (m : Matrix) → Run S default starts ts → Goes-on S default starts ts m
+pub goes-on : (S : Setup) (default : ℕ) (starts : ℕ → ℕ) (ts : List Turn) (m : Matrix) → Run S default starts ts
+    → Goes-on S default starts ts m
 unfolding Run
 goes-on S default starts ts m r =
     record {

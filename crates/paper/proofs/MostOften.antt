@@ -1,5 +1,6 @@
--- How often values come. A value came at all where it is in a cell, so the values in the cells bound all others; and counts are bounded
--- by n, so one of them is the highest: it is found by lowering the bound until some value reaches it.
+-- How often values come. A value came at all where it is in a cell, so the values in the cells bound all others; and
+-- counts are bounded by n, so one of them is the highest: it is found by lowering the bound until some value reaches
+-- it.
 use mathlib.Core.Path.{_≡_, refl, ap}
 use mathlib.Core.Bool.{true, false≢true}
 use mathlib.Core.Option.{Option, none, some}
@@ -33,14 +34,8 @@ came n row w = (
   λ r. size-pos n (R row w) (r .0) (r .1) (rw (r .2) (same-refl (val w))),
 )
 
-pub times-zero : (n : ℕ) (row : Row) (w : ℕ) → ¬ Received n row w → times n row w ≡ 0
-times-zero n row w nobody = go (decLe 1 (times n row w))
-  where
-    go : Dec (0 < times n row w) → times n row w ≡ 0
-    go (yes h) = absurd (nobody (came n row w .0 h))
-    go (no h) = omega arith
-
-in-cell : (n : ℕ) (row : Row) (k : ℕ) (c : Cell) → ((w : ℕ) → c ≡ heard (val w) → times n row w ≤ k) → no-oftener n row k c ≡ true
+in-cell : (n : ℕ) (row : Row) (k : ℕ) (c : Cell) → ((w : ℕ) → c ≡ heard (val w) → times n row w ≤ k)
+    → no-oftener n row k c ≡ true
 unfolding no-oftener
 in-cell n row k lost all = refl
 in-cell n row k (heard query) all = refl
@@ -71,7 +66,8 @@ module _ (n : ℕ) (row : Row) where
   bounded (suc k) top w r = go (smallest n row (λ u. leb (suc k) (times n row u))) refl (λ lower. bounded k lower w r)
     where
       go : (a : Option ℕ) → smallest n row (λ u. leb (suc k) (times n row u)) ≡ a
-          → (((u : ℕ) → Received n row u → times n row u ≤ k) → (v : ℕ) × Received n row v × (most-often n row v ≡ true))
+          → (((u : ℕ) → Received n row u → times n row u ≤ k)
+          → (v : ℕ) × Received n row v × (most-often n row v ≡ true))
           → (v : ℕ) × Received n row v × (most-often n row v ≡ true)
       go (some v) e below =
           let l = smallest-some n row (λ u. leb (suc k) (times n row u)) v e in (
@@ -83,7 +79,8 @@ module _ (n : ℕ) (row : Row) where
         where
           lower : (u : ℕ) → Received n row u → Dec (suc k ≤ times n row u) → times n row u ≤ k
           lower u s (yes h) =
-              absurd (smallest-none n row (λ u. leb (suc k) (times n row u)) e (s .0) u (s .1) (s .2) (le-leb (suc k) (times n row u) h))
+              absurd (smallest-none n row (λ u. leb (suc k) (times n row u)) e (s .0) u (s .1) (s .2)
+              (le-leb (suc k) (times n row u) h))
           lower u s (no h) = omega arith
 
   -- where a value is received, one is received most often

@@ -1,23 +1,25 @@
--- What the rules of specs/Rules.antt do, told from outside and in numbers. What `smallest` and `most-often` find is proved already; that
--- at most one value passes T, or E, is that two values have no sender in common, so that their counts add to n at most.
+-- What the rules of specs/Rules.antt do, told from outside: by how often values came, and by which counts pass. What
+-- `smallest` and `most-often` find is proved already, and that one value at most passes T, or E (Passing).
 use mathlib.Core.Path.{_≡_, refl, sym, ap, ap₂, _∙_, fun-ext}
 use mathlib.Core.Bool.{_&&_, Bool, true, false, cond, false≢true}
 use mathlib.Core.Option.{Option, none, some, Option·none-ne-some, Option·some-ne-none, Option·some-injective}
 use mathlib.Core.Logic.{_↔_, _≢_, _⊎_, inl, inr, ⊎-elim}
-use Prim.Native.Nat.{ℕ, zero, suc, _+_, _-_, _*_, _≤_, _<_}
-use native.Mathlib.Nat.{le-of-eq, le-refl}
-use native.Mathlib.Decide.{ℕ-discrete}
+use Prim.Native.Nat.{ℕ, zero, suc, _≤_, _<_}
+use native.Mathlib.Nat.{le-refl}
 use native.Mathlib.Omega.{arith}
-use lib.Dec.{ltb, leb}
-use borrow.Author.Tests.{ltb-true, lt-ltb, le-ltb, leb-true, le-leb}
+use lib.Dec.{leb}
 use Rattle.paper.specs.Stations.{All, size, every}
 use Rattle.paper.specs.Heard.{val, query, Cell, lost, heard, Row, arrived, holds, HO, R}
-use Rattle.paper.specs.Setup.{Setup, passesT, passesE, vouched, safe-bound, passes-bound}
-use Rattle.paper.specs.Rules.{Station, Kind, update, value, vote, times, candidate, smaller, smallest, no-oftener, most-often, or-else, vote-or-else, next-estimate, next-vote, deciding, Fires, fired}
-use Rattle.paper.proofs.Counting.{size-member, size-le, size-cong}
-use Rattle.paper.proofs.Sets.{received-apart}
-use Rattle.paper.proofs.Smallest.{Least, smallest-some, smallest-is, smallest-found}
+use Rattle.paper.specs.Setup.{Setup, U, acceptable, passes-T, passes-E, vouched}
+use Rattle.paper.specs.Rules.{Station, Kind, update, value, vote, times, candidate, smaller, smallest, no-oftener}
+use Rattle.paper.specs.Rules.{most-often, or-else, vote-or-else, next-estimate, next-vote, deciding, Fires, fired}
+use Rattle.paper.proofs.Counting.{size-member, size-cong}
+use Rattle.paper.proofs.Smallest.{Least, smallest-some}
 use Rattle.paper.proofs.MostOften.{Received, came, most-often-iff, most-often-all, most-often-found}
+use Rattle.paper.proofs.Passing.{Lowest, lowest-iff, lowest-found, none-passes, passing-iff, one-passes-T}
+use Rattle.paper.proofs.Passing.{one-passes-E}
+use Rattle.paper.proofs.Thresholds.{vouched-iff, passed-T}
+use Rattle.paper.proofs.Decisions.{fired-fires}
 
 -- received, at least as often as any value, and smaller than any other that came as often
 pub record Commonest (n : ℕ) (row : Row) (v : ℕ) : Type 0 where
@@ -35,22 +37,26 @@ commonest n row v e =
       first =
           λ w t.
           let s : Received n row w = came n row w .0 (omega (arith, came n row v .1 r)) in
-          l .least (s .0) w (s .1) (s .2) (most-often-iff n row w .1 (λ u h. omega (arith, most-often-all n row v (l .passes) u)));
+          l .least (s .0) w (s .1) (s .2)
+          (most-often-iff n row w .1 (λ u h. omega (arith, most-often-all n row v (l .passes) u)));
     }
 
 module _ (S : Setup) (default : ℕ) (s : Station) (row : Row) where
   -- A, more than T heard, a value among them: the new estimate is the commonest value
-  pub A-updates : (w : ℕ) → S .T < size (S .n) (HO row) → Received (S .n) row w → Commonest (S .n) row (next-estimate S default update s row)
-  unfolding next-estimate passesT
+  pub A-updates : (w : ℕ) → passes-T S (size (S .n) (HO row)) ≡ true → Received (S .n) row w
+      → Commonest (S .n) row (next-estimate S default update s row)
+  unfolding next-estimate
   A-updates w enough r =
       let (v, e) = most-often-found (S .n) row w r in
-      rw (lt-ltb (S .T) (size (S .n) (HO row)) enough, e) (commonest (S .n) row v e)
+      rw (enough, e) (commonest (S .n) row v e)
 
   -- more than T heard and no "?" among it: there is a value
-  pub A-has-value : S .T < size (S .n) (HO row) → ((q : ℕ) → q < S .n → row q ≢ heard query) → (w : ℕ) × Received (S .n) row w
+  pub A-has-value : acceptable S ≡ true → passes-T S (size (S .n) (HO row)) ≡ true
+      → ((q : ℕ) → q < S .n → row q ≢ heard query)
+      → (w : ℕ) × Received (S .n) row w
   unfolding HO arrived
-  A-has-value enough no-query =
-      let m = size-member (S .n) (HO row) (omega arith) in
+  A-has-value ok enough no-query =
+      let m = size-member (S .n) (HO row) (passed-T S ok (size (S .n) (HO row)) enough) in
       go (row (m .0)) (m .0) (m .1) refl (m .2)
     where
       go : (c : Cell) (q : ℕ) → q < S .n → row q ≡ c → arrived (row q) ≡ true → (w : ℕ) × Received (S .n) row w
@@ -59,95 +65,40 @@ module _ (S : Setup) (default : ℕ) (s : Station) (row : Row) where
       go (heard (val w)) q h e a = (w, (q, h, e))
 
   -- A, no more than T heard: the estimate stays
-  pub A-stays : size (S .n) (HO row) ≤ S .T → next-estimate S default update s row ≡ s .estimate
-  unfolding next-estimate passesT
-  A-stays few = rw (le-ltb (S .T) (size (S .n) (HO row)) few)
-
--- v came at least k times, and no smaller value did
-pub record Reaches (n : ℕ) (row : Row) (k v : ℕ) : Type 0 where
-  pub enough : k ≤ times n row v
-  pub first : (w : ℕ) → k ≤ times n row w → v ≤ w
-
--- a threshold k, which is not 0, and what `smallest` answers for it
-module _ (n : ℕ) (row : Row) (k : ℕ) (positive : 0 < k) where
-  abbrev reaching : ℕ → Bool
-  reaching u = leb k (times n row u)
-
-  reached-by : (w : ℕ) → k ≤ times n row w → Received n row w
-  reached-by w h = came n row w .0 (omega arith)
-
-  reaches-iff : (v : ℕ) → (smallest n row reaching ≡ some v) ↔ Reaches n row k v
-  reaches-iff v = (
-    λ e.
-        let l = smallest-some n row reaching v e in
-        record {
-          enough = leb-true k (times n row v) (l .passes);
-          first = λ w h. let r = reached-by w h in l .least (r .0) w (r .1) (r .2) (le-leb k (times n row w) h);
-        },
-    λ r.
-        let c = reached-by v (r .enough) in
-        smallest-is n row reaching v
-        (record {
-          from = c .0;
-          below = c .1;
-          heard-there = c .2;
-          passes = le-leb k (times n row v) (r .enough);
-          least = λ q w h e t. r .first w (leb-true k (times n row w) t);
-        }),
-  )
-
-  reached : (w : ℕ) → k ≤ times n row w → (v : ℕ) × (smallest n row reaching ≡ some v)
-  reached w h = let r = reached-by w h in smallest-found n row reaching (r .0) w (r .1) (r .2) (le-leb k (times n row w) h)
-
-  not-reached : ((w : ℕ) → times n row w < k) → smallest n row reaching ≡ none
-  not-reached few = go (smallest n row reaching) refl
-    where
-      go : (a : Option ℕ) → smallest n row reaching ≡ a → a ≡ none
-      go none e = refl
-      go (some v) e = absurd (omega (arith, few v, reaches-iff v .0 e .enough))
+  pub A-stays : passes-T S (size (S .n) (HO row)) ≡ false → next-estimate S default update s row ≡ s .estimate
+  unfolding next-estimate
+  A-stays few = rw few
 
 module _ (S : Setup) (default : ℕ) (s : Station) (row : Row) where
+  vouched-positive : (k : ℕ) → vouched S k ≡ true → 0 < k
+  vouched-positive k e = omega (arith, vouched-iff S k .0 e)
+
   -- U, a vote round in which a value has at least alpha + 1 votes: the new estimate is the smallest such value
-  pub U-takes-vouched : (w : ℕ) → S .alpha + 1 ≤ times (S .n) row w
-      → Reaches (S .n) row (S .alpha + 1) (next-estimate S default vote s row)
-  unfolding next-estimate vouched or-else
+  pub U-takes-vouched : (w : ℕ) → vouched S (times (S .n) row w) ≡ true
+      → Lowest (S .n) row (vouched S) (next-estimate S default vote s row)
+  unfolding next-estimate or-else
   U-takes-vouched w enough =
-      let (v, e) = reached (S .n) row (S .alpha + 1) (omega arith) w enough in
-      rw e (reaches-iff (S .n) row (S .alpha + 1) (omega arith) v .0 e)
+      let (v, e) = lowest-found (S .n) row (vouched S) vouched-positive w enough in
+      rw e (lowest-iff (S .n) row (vouched S) vouched-positive v .0 e)
 
   -- a vote round in which no value has: it is the default
-  pub U-takes-default : ((w : ℕ) → times (S .n) row w < S .alpha + 1) → next-estimate S default vote s row ≡ default
-  unfolding next-estimate vouched or-else
-  U-takes-default few = rw (not-reached (S .n) row (S .alpha + 1) (omega arith) few)
+  pub U-takes-default : ((w : ℕ) → vouched S (times (S .n) row w) ≡ false)
+      → next-estimate S default vote s row ≡ default
+  unfolding next-estimate or-else
+  U-takes-default few = rw (none-passes (S .n) row (vouched S) few)
 
   -- a value round leaves the estimate
   pub U-value-keeps : next-estimate S default value s row ≡ s .estimate
   unfolding next-estimate
   U-value-keeps = refl
 
--- more than half of n senders send one value at most
-pub one-majority : (n k : ℕ) (row : Row) (v w : ℕ) → n ≤ 2 * k → k < times n row v → k < times n row w → v ≡ w
-unfolding times
-one-majority n k row v w half a b = go (ℕ-discrete v w)
-  where
-    go : Dec (v ≡ w) → v ≡ w
-    go (yes e) = e
-    go (no apart) = absurd (omega (arith, received-apart n v w apart row, size-le n (HO row)))
-
-majority : (n k : ℕ) (row : Row) (v : ℕ) → n ≤ 2 * k → (smallest n row (λ u. ltb k (times n row u)) ≡ some v) ↔ (k < times n row v)
-majority n k row v half =
-    let iff = reaches-iff n row (suc k) (omega arith) v in (
-      λ e. iff .0 e .enough,
-      λ more. iff .1 (record { enough = more; first = λ w h. le-of-eq (one-majority n k row v w half more h) }),
-    )
-
 -- U, a value round from "?": the vote becomes v exactly if more than T received values equal v
-pub U-votes : (S : Setup) (s : Station) (row : Row) (v : ℕ) → S .n ≤ 2 * S .T → s .vote ≡ query
-    → (next-vote S value s row ≡ val v) ↔ (S .T < times (S .n) row v)
-unfolding next-vote passesT vote-or-else
-U-votes S s row v half blank =
-    let iff = majority (S .n) (S .T) row v half in
-    (λ e. iff .0 (go (smallest (S .n) row (λ u. ltb (S .T) (times (S .n) row u))) e), λ more. rw (iff .1 more))
+pub U-votes : (S : Setup) → acceptable S ≡ true → S .algorithm ≡ U → (s : Station) (row : Row) (v : ℕ) → s .vote ≡ query
+    → (next-vote S value s row ≡ val v) ↔ (passes-T S (times (S .n) row v) ≡ true)
+unfolding next-vote vote-or-else
+U-votes S ok own s row v blank =
+    let iff = passing-iff (S .n) row (passes-T S) (one-passes-T S row ok own) v in
+    (λ e. iff .0 (go (smallest (S .n) row (λ u. passes-T S (times (S .n) row u))) e), λ more. rw (iff .1 more))
   where
     go : (a : Option ℕ) → vote-or-else a (s .vote) ≡ val v → a ≡ some v
     go none e = cc
@@ -159,39 +110,29 @@ unfolding next-vote
 U-vote-cleared S s row = refl
 
 -- the decide rule fires for v exactly if it is in force and more than E received values equal v
-pub fires-iff : (S : Setup) (k : Kind) (row : Row) (v : ℕ) → Fires S k row v ↔ ((deciding k ≡ true) × (S .E < times (S .n) row v))
-unfolding passesE
-fires-iff S k row v = (
-  λ f. (f .rule, ltb-true (S .E) (times (S .n) row v) (f .enough)),
-  λ p. record { rule = p .0; enough = lt-ltb (S .E) (times (S .n) row v) (p .1) },
-)
+pub fires-iff : (S : Setup) (k : Kind) (row : Row) (v : ℕ)
+    → Fires S k row v ↔ ((deciding k ≡ true) × (passes-E S (times (S .n) row v) ≡ true))
+fires-iff S k row v = (λ f. (f .rule, f .enough), λ p. record { rule = p .0; enough = p .1 })
 
 -- and `fired` names that v
-pub fired-iff : (S : Setup) (k : Kind) (row : Row) (v : ℕ) → S .n ≤ 2 * S .E → (fired S k row ≡ some v) ↔ Fires S k row v
-unfolding fired passesE
-fired-iff S k row v half =
-    let iff = majority (S .n) (S .E) row v half in
-    (λ e. go (deciding k) refl e, λ f. rw (f .rule) (iff .1 (fires-iff S k row v .0 f .1)))
-  where
-    go : (b : Bool) → deciding k ≡ b → cond b (smallest (S .n) row (λ u. ltb (S .E) (times (S .n) row u))) none ≡ some v → Fires S k row v
-    go true d e = fires-iff S k row v .1 (d, majority (S .n) (S .E) row v half .0 e)
-    go false d e = absurd (Option·none-ne-some v e)
-
--- equation (7): more than each of the three
-pub passes-bound-iff : (S : Setup) (k : ℕ)
-    → (passes-bound S k ≡ true) ↔ ((S .n + 2 * S .alpha - S .E - 1 < k) × (S .T < k) × (S .alpha < k))
-unfolding passes-bound safe-bound
-passes-bound-iff S k =
-    (λ e. omega (arith, ltb-true (safe-bound S) k e), λ more. lt-ltb (safe-bound S) k (omega arith))
+pub fired-iff : (S : Setup) → acceptable S ≡ true → (k : Kind) (row : Row) (v : ℕ)
+    → (fired S k row ≡ some v) ↔ Fires S k row v
+unfolding fired
+fired-iff S ok k row v = (
+  fired-fires S k row v,
+  λ f. rw (f .rule)
+      (passing-iff (S .n) row (passes-E S) (one-passes-E S row ok) v .1 (f .enough)),
+)
 
 -- a row with no value in it: nothing fires, no vote is cast, and A's estimate stays
-module _ (S : Setup) (default : ℕ) (s : Station) (row : Row) (no-value : (w : ℕ) → ¬ Received (S .n) row w) where
+module _ (S : Setup) (row : Row) (no-value : (w : ℕ) → ¬ Received (S .n) row w) where
   finds-nothing : (test : ℕ → Bool) → smallest (S .n) row test ≡ none
   finds-nothing test = go (smallest (S .n) row test) refl
     where
       go : (a : Option ℕ) → smallest (S .n) row test ≡ a → a ≡ none
       go none e = refl
-      go (some v) e = let l = smallest-some (S .n) row test v e in absurd (no-value v (l .from, l .below, l .heard-there))
+      go (some v) e =
+          let l = smallest-some (S .n) row test v e in absurd (no-value v (l .from, l .below, l .heard-there))
 
   pub no-value-no-firing : (k : Kind) → fired S k row ≡ none
   unfolding fired deciding
@@ -199,20 +140,23 @@ module _ (S : Setup) (default : ℕ) (s : Station) (row : Row) (no-value : (w : 
   no-value-no-firing value = refl
   no-value-no-firing vote = finds-nothing _
 
-  pub no-value-no-vote : next-vote S value s row ≡ s .vote
+  pub no-value-no-vote : (s : Station) → next-vote S value s row ≡ s .vote
   unfolding next-vote vote-or-else
-  no-value-no-vote = ap (λ a. vote-or-else a (s .vote)) (finds-nothing _)
+  no-value-no-vote s = ap (λ a. vote-or-else a (s .vote)) (finds-nothing _)
 
-  pub no-value-A-stays : next-estimate S default update s row ≡ s .estimate
+  pub no-value-A-stays : (default : ℕ) (s : Station) → next-estimate S default update s row ≡ s .estimate
   unfolding next-estimate or-else
-  no-value-A-stays = rw (finds-nothing (most-often (S .n) row)) (same-branches (passesT S (size (S .n) (HO row))) (s .estimate))
+  no-value-A-stays default s =
+      rw (finds-nothing (most-often (S .n) row)) (same-branches (passes-T S (size (S .n) (HO row))) (s .estimate))
     where
       same-branches : (b : Bool) (x : ℕ) → cond b x x ≡ x
       same-branches true x = refl
       same-branches false x = refl
 
--- a station holds a value it received, the one it held before, or the default: never a "?", and nothing of its own making
-found-or : (n : ℕ) (row : Row) (test : ℕ → Bool) (x y : ℕ) → or-else (smallest n row test) x ≡ y → Received n row y ⊎ (y ≡ x)
+-- a station holds a value it received, the one it held before, or the default: never a "?", and nothing of its own
+-- making
+found-or : (n : ℕ) (row : Row) (test : ℕ → Bool) (x y : ℕ) → or-else (smallest n row test) x ≡ y
+    → Received n row y ⊎ (y ≡ x)
 unfolding or-else
 found-or n row test x y e = go (smallest n row test) refl e
   where
@@ -222,10 +166,11 @@ found-or n row test x y e = go (smallest n row test) refl e
         let l = smallest-some n row test v f in
         inl (l .from, l .below, l .heard-there ∙ ap (λ u. heard (val u)) e)
 
-pub estimate-from : (S : Setup) (default : ℕ) (k : Kind) (s : Station) (row : Row) (x : ℕ) → next-estimate S default k s row ≡ x
+pub estimate-from : (S : Setup) (default : ℕ) (k : Kind) (s : Station) (row : Row) (x : ℕ)
+    → next-estimate S default k s row ≡ x
     → Received (S .n) row x ⊎ (x ≡ s .estimate) ⊎ (x ≡ default)
 unfolding next-estimate
-estimate-from S default update s row x e = go (passesT S (size (S .n) (HO row))) e
+estimate-from S default update s row x e = go (passes-T S (size (S .n) (HO row))) e
   where
     go : (b : Bool) → cond b (or-else (smallest (S .n) row (most-often (S .n) row)) (s .estimate)) (s .estimate) ≡ x
         → Received (S .n) row x ⊎ (x ≡ s .estimate) ⊎ (x ≡ default)
@@ -262,7 +207,8 @@ up-to : {X : Type 0} (n : ℕ) (f g : ℕ → X) → f 0 ≡ g 0 → All n (λ q
 up-to zero f g start step = start
 up-to (suc n) f g start step = step n (le-refl (suc n)) (up-to n f g start (λ q h. step q (omega arith)))
 
--- a lost cell counts for no more than a "?", and neither for a value: alike rows have the same counts and the same smallest values
+-- a lost cell counts for no more than a "?", and neither for a value: alike rows have the same counts and the same
+-- smallest values
 module _ (n : ℕ) (row other : Row) (alike : Alike n row other) where
   pub times-alike : times n row ≡ times n other
   unfolding times R holds
@@ -295,7 +241,8 @@ module _ (n : ℕ) (row other : Row) (alike : Alike n row other) where
       ap₂ _&&_ e
       (by-value (no-oftener n row (times n row v)) refl (row q) (other q) (alike q h) ∙ no-oftener-alike v (other q))))
 
--- so they bring the same vote and the same firing, the same estimate in a vote round, and under A where as many are heard
+-- so they bring the same vote and the same firing, the same estimate in a vote round, and under A where as many are
+-- heard
 module _ (S : Setup) (row other : Row) (alike : Alike (S .n) row other) where
   passing-alike : (pass : ℕ → Bool)
       → smallest (S .n) row (λ v. pass (times (S .n) row v)) ≡ smallest (S .n) other (λ v. pass (times (S .n) other v))
@@ -306,18 +253,20 @@ module _ (S : Setup) (row other : Row) (alike : Alike (S .n) row other) where
   pub next-vote-alike : (k : Kind) (s : Station) → next-vote S k s row ≡ next-vote S k s other
   unfolding next-vote
   next-vote-alike update s = refl
-  next-vote-alike value s = ap (λ a. vote-or-else a (s .vote)) (passing-alike (passesT S))
+  next-vote-alike value s = ap (λ a. vote-or-else a (s .vote)) (passing-alike (passes-T S))
   next-vote-alike vote s = refl
 
   pub fired-alike : (k : Kind) → fired S k row ≡ fired S k other
   unfolding fired
-  fired-alike k = ap (λ a. cond (deciding k) a none) (passing-alike (passesE S))
+  fired-alike k = ap (λ a. cond (deciding k) a none) (passing-alike (passes-E S))
 
-  pub next-estimate-alike : (default : ℕ) (k : Kind) (s : Station) → (k ≡ update → size (S .n) (HO row) ≡ size (S .n) (HO other))
+  pub next-estimate-alike : (default : ℕ) (k : Kind) (s : Station)
+      → (k ≡ update → size (S .n) (HO row) ≡ size (S .n) (HO other))
       → next-estimate S default k s row ≡ next-estimate S default k s other
   unfolding next-estimate
   next-estimate-alike default update s as-many =
-      ap₂ (λ h a. cond (passesT S h) (or-else a (s .estimate)) (s .estimate)) (as-many refl)
-      (smallest-alike (S .n) row other alike (most-often (S .n) row) ∙ ap (smallest (S .n) other) (most-often-alike (S .n) row other alike))
+      ap₂ (λ h a. cond (passes-T S h) (or-else a (s .estimate)) (s .estimate)) (as-many refl)
+      (smallest-alike (S .n) row other alike (most-often (S .n) row)
+      ∙ ap (smallest (S .n) other) (most-often-alike (S .n) row other alike))
   next-estimate-alike default value s as-many = refl
   next-estimate-alike default vote s as-many = ap (λ a. or-else a default) (passing-alike (vouched S))

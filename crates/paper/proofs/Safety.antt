@@ -1,5 +1,6 @@
--- Propositions 1, 2, 5 and 6 of document 000, for any number of rounds: the stations are bound to the value of the first firing from
--- the end of its round on (OneRound), and a bound run fires for that value alone. By induction on the rounds.
+-- The paper's Propositions 1, 2, 5 and 6, for any number of rounds: the stations are bound to the value of the first
+-- firing from the end of its round on (OneRound), and a bound run fires for that value alone. By induction on the
+-- rounds.
 use mathlib.Core.Path.{_≡_, refl, ap, sym, _∙_, subst}
 use mathlib.Core.Bool.{Bool, true, false, cond}
 use mathlib.Core.List.{List, [], _∷_, List·Memᴰ·cases-cons, List·Memᴰ·head, List·Memᴰ·tail, List·Memᴰ·not-nil}
@@ -9,18 +10,20 @@ use native.Mathlib.Decide.{decLe}
 use native.Mathlib.Omega.{arith}
 use lib.Dec.{eqb}
 use borrow.Author.Tests.{eqb-true, eqb-false, eq-eqb, ne-eqb}
-use Rattle.paper.specs.Stations.{size, one, All}
+use Rattle.paper.specs.Stations.{size, All}
 use Rattle.paper.specs.Heard.{Matrix, SHO, AHO}
-use Rattle.paper.specs.Setup.{Algorithm, A, U, Setup, acceptable, acceptable-for, passesE, passes-bound}
-use Rattle.paper.specs.Rules.{Station, Kind, update, value, vote, kind-of, sends, after}
-use Rattle.paper.specs.Run.{States, opened, Turn, Step, Rounds, Run, kind, sent, P-alpha, P-safe, Safe, FiresAt}
+use Rattle.paper.specs.Setup.{Algorithm, A, U, Setup, acceptable, passes-E, tolerated, passes-bound}
+use Rattle.paper.specs.Rules.{Station, Kind, update, value, vote, kind-of, sends}
+use Rattle.paper.specs.Run.{States, opened, Turn, Next, Rounds, Run, kind, sent, P-alpha, P-safe, Safe, FiresAt}
 use Rattle.paper.specs.Safety.{_among_, holders, Locked-for, Locked, Lawful, Agreement, Lock, Integrity}
 use Rattle.paper.proofs.Counting.{size-all, size-cong}
-use Rattle.paper.proofs.Thresholds.{all-pass-E}
+use Rattle.paper.proofs.Thresholds.{tolerated-iff, all-pass-E}
+use Rattle.paper.proofs.After.{after-estimate, after-vote}
 use Rattle.paper.proofs.Rounds.{numbered, fires-in}
-use Rattle.paper.proofs.OneRound.{follows, Ready, Bound, SetupFor, SafeSets, Taken, ready-next, bound-next, bound-fires, fires-next, fires-once}
+use Rattle.paper.proofs.OneRound.{follows, Prepared, Bound, SetupFor, SafeSets, Taken, prepared-next, bound-next}
+use Rattle.paper.proofs.OneRound.{bound-fires, fires-next, fires-once}
 
--- document 01: a value round hands on to a vote round, and a vote round to a value round
+-- rule 9.1: under U the two kinds of round take turns
 pub kind-follows : (a : Algorithm) (r : ℕ) → kind-of a (suc r) ≡ follows (kind-of a r)
 unfolding kind-of
 kind-follows A r = refl
@@ -36,33 +39,34 @@ module _ (S : Setup) (default : ℕ) (ok : acceptable S ≡ true) where
   next-kind k = kind-of (S .algorithm) (suc k)
 
   -- what is believed of the states s after k rounds
-  abbrev ReadyAt : ℕ → States → Type 0
-  ReadyAt k s = Ready S (next-kind k) s
+  abbrev PreparedAt : ℕ → States → Type 0
+  PreparedAt k s = Prepared S (next-kind k) s
 
   abbrev BoundAt : ℕ → States → ℕ → Type 0
   BoundAt k s v = Bound S (next-kind k) s v
 
   -- the two predicates at one receiver, in round r of an algorithm
   abbrev FewAt : ℕ → States → Matrix → ℕ → Type 0
-  FewAt r b m p = size (S .n) (AHO (m p) (λ q. sends (kind-of (S .algorithm) r) (b q))) ≤ S .alpha
+  FewAt r b m p = tolerated S (size (S .n) (AHO (m p) (λ q. sends (kind-of (S .algorithm) r) (b q)))) ≡ true
 
   abbrev LargeAt : Algorithm → ℕ → States → Matrix → ℕ → Type 0
   LargeAt a r b m p = passes-bound S (size (S .n) (SHO (m p) (λ q. sends (kind-of a r) (b q)))) ≡ true
 
   setup-for : (k : ℕ) → SetupFor S (next-kind k)
-  unfolding acceptable kind-of
-  setup-for k = go (S .algorithm) ok
+  unfolding kind-of
+  setup-for k = go (S .algorithm) refl
     where
-      under-U : acceptable-for U S ≡ true → (x : Bool) → SetupFor S (cond x vote value)
-      under-U good true = good
-      under-U good false = good
+      under-U : S .algorithm ≡ U → (x : Bool) → SetupFor S (cond x vote value)
+      under-U own true = own
+      under-U own false = own
 
-      go : (a : Algorithm) → acceptable-for a S ≡ true → SetupFor S (kind-of a (suc k))
-      go A good = good
-      go U good = under-U good (eqb (suc k % 2) 0)
+      go : (a : Algorithm) → S .algorithm ≡ a → SetupFor S (kind-of a (suc k))
+      go A own = own
+      go U own = under-U own (eqb (suc k % 2) 0)
 
   -- U's predicate at a round, as the kind of the round has it
-  safe-sets : (a : Algorithm) (r : ℕ) (b : States) (m : Matrix) → (a ≡ U → All (S .n) (λ p. LargeAt a r b m p)) → SafeSets S (kind-of a r) b m
+  safe-sets : (a : Algorithm) (r : ℕ) (b : States) (m : Matrix) → (a ≡ U → All (S .n) (λ p. LargeAt a r b m p))
+      → SafeSets S (kind-of a r) b m
   unfolding kind-of
   safe-sets A r b m large = tt
   safe-sets U r b m large = go (eqb (r % 2) 0) (large refl)
@@ -74,35 +78,47 @@ module _ (S : Setup) (default : ℕ) (ok : acceptable S ≡ true) where
       go false all = all
 
   -- a round of the run, kept to the predicates, is one that OneRound speaks of
-  taken : {k : ℕ} {s : States} {t : Turn} → Step S default k s t → Safe S t
+  taken : {k : ℕ} {s : States} {t : Turn} → Next S default k s t → Safe S t
       → Taken S default ok (t .before) (t .heard) (t .after) (next-kind k)
-  unfolding after P-alpha P-safe sent kind
+  unfolding P-alpha P-safe sent kind
   taken {k} {s} {t} st safe =
       record {
         setup = setup-for k;
-        estimates = λ p h. ap (λ (x : Station). x .estimate) (st .by-rule p h);
-        votes = λ p h. ap (λ (x : Station). x .vote) (st .by-rule p h);
-        few = λ p h. subst (λ r. FewAt r (t .before) (t .heard) p) (st .counted) (safe .few-altered p h);
+        estimates =
+            λ p h. ap (λ (x : Station). x .estimate) (st .by-rule p h)
+            ∙ after-estimate S default (suc k) (t .before p) (t .heard p);
+        votes =
+            λ p h. ap (λ (x : Station). x .vote) (st .by-rule p h)
+            ∙ after-vote S default (suc k) (t .before p) (t .heard p);
+        few =
+            λ p h. tolerated-iff S _ .0
+            (subst (λ r. FewAt r (t .before) (t .heard) p) (st .counted) (safe .few-altered p h));
         safe =
             safe-sets (S .algorithm) (suc k) (t .before) (t .heard)
-            (λ e p h. subst (λ r. LargeAt (S .algorithm) r (t .before) (t .heard) p) (st .counted) (safe .enough-safe e p h));
+            (λ e p h. subst (λ r. LargeAt (S .algorithm) r (t .before) (t .heard) p) (st .counted)
+            (safe .enough-safe e p h));
       }
 
   -- what is believed of the states where a round ended is believed of the states where the next one starts
-  ready-from : (k : Kind) (s b : States) → All (S .n) (λ p. b p ≡ s p) → Ready S k s → Ready S k b
-  ready-from update s b same ready = tt
-  ready-from value s b same ready = λ p h. ap (λ (x : Station). x .vote) (same p h) ∙ ready p h
-  ready-from vote s b same ready =
-      λ p q v w hp hq ep eq. ready p q v w hp hq (sym (ap (λ (x : Station). x .vote) (same p hp)) ∙ ep) (sym (ap (λ (x : Station). x .vote) (same q hq)) ∙ eq)
+  prepared-from : (k : Kind) (s b : States) → All (S .n) (λ p. b p ≡ s p) → Prepared S k s → Prepared S k b
+  prepared-from update s b same prepared = tt
+  prepared-from value s b same prepared = λ p h. ap (λ (x : Station). x .vote) (same p h) ∙ prepared p h
+  prepared-from vote s b same prepared =
+      λ p q v w hp hq ep eq. prepared p q v w hp hq (sym (ap (λ (x : Station). x .vote) (same p hp)) ∙ ep)
+      (sym (ap (λ (x : Station). x .vote) (same q hq)) ∙ eq)
 
   bound-from : (k : Kind) (s b : States) → All (S .n) (λ p. b p ≡ s p) → (v : ℕ) → Bound S k s v → Bound S k b v
   unfolding holders
   bound-from update s b same v bound =
-      subst (λ (k : ℕ). passesE S (k + S .alpha) ≡ true)
-      (size-cong (S .n) (holders s v) (holders b v) (λ p h. ap (λ (x : Station). eqb (x .estimate) v) (sym (same p h)))) bound
+      subst (λ (k : ℕ). passes-E S (k + S .alpha) ≡ true)
+      (size-cong (S .n) (holders s v) (holders b v)
+      (λ p h. ap (λ (x : Station). eqb (x .estimate) v) (sym (same p h)))) bound
   bound-from value s b same v bound = λ p h. ap (λ (x : Station). x .estimate) (same p h) ∙ bound p h
-  bound-from vote s b same v bound =
-      (λ p h. ap (λ (x : Station). x .estimate) (same p h) ∙ bound .0 p h, λ p h. ap (λ (x : Station). x .vote) (same p h) ∙ bound .1 p h)
+  bound-from vote s b same v bound = (
+    λ p h. ap (λ (x : Station). x .estimate) (same p h)
+        ∙ bound .0 p h,
+    λ p h. ap (λ (x : Station). x .vote) (same p h) ∙ bound .1 p h,
+  )
 
   -- a bound run is a locked one
   locked : (k : ℕ) (s : States) (v : ℕ) → BoundAt k s v → Locked S s v
@@ -118,14 +134,14 @@ module _ (S : Setup) (default : ℕ) (ok : acceptable S ≡ true) where
       go U bound = under-U (eqb (suc k % 2) 0) bound
 
   -- a round t, as the induction meets it: where it starts, where it leads, and what may fire in it
-  module _ {k : ℕ} {s : States} {t : Turn} (st : Step S default k s t) (safe : Safe S t) (ready : ReadyAt k s) where
-    ready-here : Ready S (next-kind k) (t .before)
-    ready-here = ready-from (next-kind k) s (t .before) (st .from) ready
+  module _ {k : ℕ} {s : States} {t : Turn} (st : Next S default k s t) (safe : Safe S t) (ready : PreparedAt k s) where
+    prepared-here : Prepared S (next-kind k) (t .before)
+    prepared-here = prepared-from (next-kind k) s (t .before) (st .from) ready
 
-    ready-after : ReadyAt (suc k) (t .after)
-    ready-after =
-        subst (λ (x : Kind). Ready S x (t .after)) (sym (kind-follows (S .algorithm) (suc k)))
-        (ready-next S default ok (t .before) (t .heard) (t .after) (next-kind k) (taken st safe) ready-here)
+    prepared-after : PreparedAt (suc k) (t .after)
+    prepared-after =
+        subst (λ (x : Kind). Prepared S x (t .after)) (sym (kind-follows (S .algorithm) (suc k)))
+        (prepared-next S default ok (t .before) (t .heard) (t .after) (next-kind k) (taken st safe) prepared-here)
 
     after-bound : (v : ℕ) → Bound S (follows (next-kind k)) (t .after) v → BoundAt (suc k) (t .after) v
     after-bound v bound = subst (λ (x : Kind). Bound S x (t .after) v) (sym (kind-follows (S .algorithm) (suc k))) bound
@@ -133,12 +149,13 @@ module _ (S : Setup) (default : ℕ) (ok : acceptable S ≡ true) where
     fired-bound : (p v : ℕ) → p < S .n → FiresAt S t p v → BoundAt (suc k) (t .after) v
     fired-bound p v h f =
         after-bound v
-        (fires-next S default ok (t .before) (t .heard) (t .after) (next-kind k) (taken st safe) ready-here p v h
+        (fires-next S default ok (t .before) (t .heard) (t .after) (next-kind k) (taken st safe) prepared-here p v h
         (fires-in S default st p v .0 f))
 
     fired-once : (p q v w : ℕ) → p < S .n → q < S .n → FiresAt S t p v → FiresAt S t q w → v ≡ w
     fired-once p q v w hp hq f g =
-        fires-once S default ok (t .before) (t .heard) (t .after) (next-kind k) (taken st safe) ready-here p q v w hp hq
+        fires-once S default ok (t .before) (t .heard) (t .after) (next-kind k)
+        (taken st safe) prepared-here p q v w hp hq
         (fires-in S default st p v .0 f) (fires-in S default st q w .0 g)
 
     module _ (v : ℕ) (bound : BoundAt k s v) where
@@ -148,11 +165,13 @@ module _ (S : Setup) (default : ℕ) (ok : acceptable S ≡ true) where
       still-bound : BoundAt (suc k) (t .after) v
       still-bound =
           after-bound v
-          (bound-next S default ok (t .before) (t .heard) (t .after) (next-kind k) (taken st safe) ready-here v bound-here)
+          (bound-next S default ok (t .before) (t .heard) (t .after) (next-kind k)
+          (taken st safe) prepared-here v bound-here)
 
       bound-value : (p w : ℕ) → p < S .n → FiresAt S t p w → w ≡ v
       bound-value p w h f =
-          bound-fires S default ok (t .before) (t .heard) (t .after) (next-kind k) (taken st safe) ready-here v bound-here p w h
+          bound-fires S default ok (t .before) (t .heard) (t .after) (next-kind k)
+          (taken st safe) prepared-here v bound-here p w h
           (fires-in S default st p w .0 f)
 
   abbrev AllSafe : List Turn → Type 0
@@ -162,28 +181,40 @@ module _ (S : Setup) (default : ℕ) (ok : acceptable S ≡ true) where
   abbrev Binds : ℕ → Turn → Type 0
   Binds v u = Locked S (u .after) v × ((q w : ℕ) → q < S .n → FiresAt S u q w → w ≡ v)
 
-  bound-run : (ts : List Turn) (k : ℕ) (s : States) → Rounds S default k s ts → AllSafe ts → ReadyAt k s → (v : ℕ) → BoundAt k s v
+  bound-run : (ts : List Turn) (k : ℕ) (s : States) → Rounds S default k s ts → AllSafe ts → PreparedAt k s → (v : ℕ)
+      → BoundAt k s v
       → (u : Turn) → u among ts → Binds v u
   unfolding Rounds
-  bound-run [] k s run safe ready v bound u i = absurd (List·Memᴰ·not-nil i)
-  bound-run (t ∷ ts) k s run safe ready v bound u i =
+  bound-run [] k s run safe prepared v bound u i = absurd (List·Memᴰ·not-nil i)
+  bound-run (t ∷ ts) k s run safe prepared v bound u i =
       let here : Safe S t = safe t (List·Memᴰ·head refl) in
-      let on : BoundAt (suc k) (t .after) v = still-bound (run .0) here ready v bound in
+      let on : BoundAt (suc k) (t .after) v = still-bound (run .0) here prepared v bound in
       ⊎-elim
-      (λ e. subst (λ (x : Turn). Binds v x) (sym e) (locked (suc k) (t .after) v on, bound-value (run .0) here ready v bound))
-      (bound-run ts (suc k) (t .after) (run .1) (λ x j. safe x (List·Memᴰ·tail j)) (ready-after (run .0) here ready) v on u) (List·Memᴰ·cases-cons i)
+      (λ e. subst (λ (x : Turn). Binds v x) (sym e)
+      (locked (suc k) (t .after) v on, bound-value (run .0) here prepared v bound))
+      (bound-run ts (suc k) (t .after) (run .1) (λ x j. safe x (List·Memᴰ·tail j))
+      (prepared-after (run .0) here prepared) v on u) (List·Memᴰ·cases-cons i)
 
   -- from the round t in which it fires for v on, v binds
-  fired-run : (ts : List Turn) (k : ℕ) (s : States) → Rounds S default k s ts → AllSafe ts → ReadyAt k s → (t u : Turn) (p v : ℕ)
+  fired-run : (ts : List Turn) (k : ℕ) (s : States) → Rounds S default k s ts → AllSafe ts → PreparedAt k s
+      → (t u : Turn) (p v : ℕ)
       → t among ts → u among ts → t .number ≤ u .number → p < S .n → FiresAt S t p v → Binds v u
   unfolding Rounds
-  fired-run [] k s run safe ready t u p v i j order h f = absurd (List·Memᴰ·not-nil i)
-  fired-run (x ∷ ts) k s run safe ready t u p v i j order h f =
+  fired-run [] k s run safe prepared t u p v i j order h f = absurd (List·Memᴰ·not-nil i)
+  fired-run (x ∷ ts) k s run safe prepared t u p v i j order h f =
       ⊎-elim (λ e. at-head (subst (λ (y : Turn). FiresAt S y p v) e f) (List·Memᴰ·cases-cons j))
       (λ i′.
       ⊎-elim
-      (λ e. absurd (omega (arith, order, ap (λ (y : Turn). y .number) e, run .0 .counted, numbered S default ts (suc k) (x .after) (run .1) t i′)))
-      (λ j′. fired-run ts (suc k) (x .after) (run .1) later (ready-after (run .0) here ready) t u p v i′ j′ order h f) (List·Memᴰ·cases-cons j))
+      (λ e. absurd (omega (
+        arith,
+        order,
+        ap (λ (y : Turn). y .number) e,
+        run .0 .counted,
+        numbered S default ts (suc k)
+            (x .after) (run .1) t i′,
+      )))
+      (λ j′. fired-run ts (suc k) (x .after) (run .1) later
+      (prepared-after (run .0) here prepared) t u p v i′ j′ order h f) (List·Memᴰ·cases-cons j))
       (List·Memᴰ·cases-cons i)
     where
       here : Safe S x
@@ -195,17 +226,19 @@ module _ (S : Setup) (default : ℕ) (ok : acceptable S ≡ true) where
       at-head : FiresAt S x p v → (u ≡ x) ⊎ (u among ts) → Binds v u
       at-head g (inl e) =
           subst (λ (y : Turn). Binds v y) (sym e) (
-            locked (suc k) (x .after) v (fired-bound (run .0) here ready p v h g),
-            λ q w hq d. fired-once (run .0) here ready q p w v hq h d g,
+            locked (suc k) (x .after) v (fired-bound (run .0) here prepared p v h g),
+            λ q w hq d. fired-once (run .0) here prepared q p w v hq h d g,
           )
-      at-head g (inr m) = bound-run ts (suc k) (x .after) (run .1) later (ready-after (run .0) here ready) v (fired-bound (run .0) here ready p v h g) u m
+      at-head g (inr m) =
+          bound-run ts (suc k) (x .after) (run .1) later (prepared-after (run .0) here prepared) v
+          (fired-bound (run .0) here prepared p v h g) u m
 
-  -- a run starts ready, and bound where all starts are one value
-  ready-start : (starts : ℕ → ℕ) → ReadyAt 0 (opened starts)
+  -- a run starts prepared, and bound where all starts are one value
+  prepared-start : (starts : ℕ → ℕ) → PreparedAt 0 (opened starts)
   unfolding opened kind-of
-  ready-start starts = go (S .algorithm)
+  prepared-start starts = go (S .algorithm)
     where
-      go : (a : Algorithm) → Ready S (kind-of a 1) (opened starts)
+      go : (a : Algorithm) → Prepared S (kind-of a 1) (opened starts)
       go A = tt
       go U = λ p h. refl
 
@@ -217,7 +250,7 @@ module _ (S : Setup) (default : ℕ) (ok : acceptable S ≡ true) where
       everybody = size-all (S .n) (holders (opened starts) v) (λ p h. eq-eqb (starts p) v (all p h))
 
       go : (a : Algorithm) → Bound S (kind-of a 1) (opened starts) v
-      go A = subst (λ (k : ℕ). passesE S (k + S .alpha) ≡ true) (sym everybody) (all-pass-E S ok)
+      go A = subst (λ (k : ℕ). passes-E S (k + S .alpha) ≡ true) (sym everybody) (all-pass-E S ok)
       go U = all
 
   module _ (starts : ℕ → ℕ) (ts : List Turn) (run : Run S default starts ts) (safe : AllSafe ts) where
@@ -226,17 +259,20 @@ module _ (S : Setup) (default : ℕ) (ok : acceptable S ≡ true) where
     one-value t u p q v w i j hp hq f g = go (decLe (t .number) (u .number))
       where
         go : Dec (t .number ≤ u .number) → v ≡ w
-        go (yes le) = sym (fired-run ts 0 (opened starts) run safe (ready-start starts) t u p v i j le hp f .1 q w hq g)
-        go (no gt) = fired-run ts 0 (opened starts) run safe (ready-start starts) u t q w j i (omega arith) hq g .1 p v hp f
+        go (yes le) =
+            sym (fired-run ts 0 (opened starts) run safe (prepared-start starts) t u p v i j le hp f .1 q w hq g)
+        go (no gt) =
+            fired-run ts 0 (opened starts) run safe (prepared-start starts) u t q w j i (omega arith) hq g .1 p v hp f
 
     stays-locked : Lock S ts
     unfolding Lock Run
-    stays-locked t u p v i j order h f = fired-run ts 0 (opened starts) run safe (ready-start starts) t u p v i j order h f .0
+    stays-locked t u p v i j order h f =
+        fired-run ts 0 (opened starts) run safe (prepared-start starts) t u p v i j order h f .0
 
     only-start : Integrity S starts ts
     unfolding Integrity Run
     only-start v all t p w i h f =
-        bound-run ts 0 (opened starts) run safe (ready-start starts) v (bound-start starts v all) t i .1 p w h f
+        bound-run ts 0 (opened starts) run safe (prepared-start starts) v (bound-start starts v all) t i .1 p w h f
 
 module _ (S : Setup) (default : ℕ) (starts : ℕ → ℕ) (ts : List Turn) (lawful : Lawful S default starts ts) where
   -- (a) wherever the decide rule fires, it names one value

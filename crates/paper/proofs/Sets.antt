@@ -8,7 +8,8 @@ use native.Mathlib.Nat.{le-refl}
 use native.Mathlib.Omega.{arith}
 use borrow.Author.Tests.{eqb-true, eq-eqb}
 use Rattle.paper.specs.Stations.{one, size}
-use Rattle.paper.specs.Heard.{Message, val, query, Cell, lost, heard, Row, same, arrived, holds, HO, SHO, AHO, R, Q}
+use Rattle.paper.specs.Heard.{Message, val, query, Cell, lost, heard, Row, same, arrived, holds, HO, SHO, AHO, R}
+use Rattle.paper.specs.Heard.{Q}
 use Rattle.paper.proofs.Counting.{count-le, everyone, size-everyone, one-le}
 
 pub same-eq : (k m : Message) → same k m ≡ true → k ≡ m
@@ -40,14 +41,18 @@ two-messages m v w apart = go (same m (val v)) refl
         also false d = let z : one (same m (val w)) ≡ 0 = ap one d in omega (arith, one-le (same m (val v)))
 
 -- in one cell: what is heard is what was to be sent, or it is altered
-cell-received : (c : Cell) (m : Message) (v : ℕ) → one (holds c (val v)) ≤ one (same m (val v)) + one (arrived c && not (holds c m))
+cell-received : (c : Cell) (m : Message) (v : ℕ)
+    → one (holds c (val v)) ≤ one (same m (val v)) + one (arrived c && not (holds c m))
 unfolding one holds arrived
 cell-received lost m v = zero-le
 cell-received (heard k) m v = go (same k m) refl
   where
     go : (b : Bool) → same k m ≡ b → one (same k (val v)) ≤ one (same m (val v)) + one (not (same k m))
-    go true e = let one-message : one (same k (val v)) ≡ one (same m (val v)) = ap (λ x. one (same x (val v))) (same-eq k m e) in omega arith
-    go false e = let altered : one (not (same k m)) ≡ 1 = ap (λ x. one (not x)) e in omega (arith, one-le (same k (val v)))
+    go true e =
+        let one-message : one (same k (val v)) ≡ one (same m (val v)) = ap (λ x. one (same x (val v)))
+        (same-eq k m e) in omega arith
+    go false e =
+        let altered : one (not (same k m)) ≡ 1 = ap (λ x. one (not x)) e in omega (arith, one-le (same k (val v)))
 
 cell-heard : (c : Cell) (m : Message) (v : ℕ)
     → one (arrived c) + one (same m (val v)) ≤ one (holds c (val v)) + (1 + one (arrived c && not (holds c m)))
@@ -56,8 +61,11 @@ cell-heard lost m v = omega (arith, one-le (same m (val v)))
 cell-heard (heard k) m v = go (same k m) refl
   where
     go : (b : Bool) → same k m ≡ b → 1 + one (same m (val v)) ≤ one (same k (val v)) + (1 + one (not (same k m)))
-    go true e = let one-message : one (same k (val v)) ≡ one (same m (val v)) = ap (λ x. one (same x (val v))) (same-eq k m e) in omega arith
-    go false e = let altered : one (not (same k m)) ≡ 1 = ap (λ x. one (not x)) e in omega (arith, one-le (same m (val v)))
+    go true e =
+        let one-message : one (same k (val v)) ≡ one (same m (val v)) = ap (λ x. one (same x (val v)))
+        (same-eq k m e) in omega arith
+    go false e =
+        let altered : one (not (same k m)) ≡ 1 = ap (λ x. one (not x)) e in omega (arith, one-le (same m (val v)))
 
 cell-safe : (c : Cell) (m : Message) (v : ℕ) → one (same m (val v)) + one (holds c m) ≤ one (holds c (val v)) + 1
 unfolding one holds
@@ -65,7 +73,9 @@ cell-safe lost m v = omega (arith, one-le (same m (val v)))
 cell-safe (heard k) m v = go (same k m) refl
   where
     go : (b : Bool) → same k m ≡ b → one (same m (val v)) + one (same k m) ≤ one (same k (val v)) + 1
-    go true e = let one-message : one (same k (val v)) ≡ one (same m (val v)) = ap (λ x. one (same x (val v))) (same-eq k m e) in omega (arith, one-le (same k m))
+    go true e =
+        let one-message : one (same k (val v)) ≡ one (same m (val v)) = ap (λ x. one (same x (val v)))
+        (same-eq k m e) in omega (arith, one-le (same k m))
     go false e = let altered : one (same k m) ≡ 0 = ap one e in omega (arith, one-le (same m (val v)))
 
 cell-two : (c : Cell) (v w : ℕ) → v ≢ w → one (holds c (val v)) + one (holds c (val w)) ≤ one (arrived c)
@@ -111,7 +121,11 @@ module _ (n : ℕ) (v w : ℕ) (apart : v ≢ w) where
   pub received-apart : (row : Row) → size n (R row v) + size n (R row w) ≤ size n (HO row)
   unfolding R HO
   received-apart row =
-      omega (arith, count-le n (R row v ∷ R row w ∷ []) (HO row ∷ []) (λ q h. omega (arith, cell-two (row q) v w apart)))
+      omega (
+        arith,
+        count-le n (R row v ∷ R row w ∷ []) (HO row ∷ [])
+            (λ q h. omega (arith, cell-two (row q) v w apart)),
+      )
 
   -- Lemma 3's count: nobody ought to send two values
   pub senders-apart : (sent : ℕ → Message) → size n (Q sent v) + size n (Q sent w) ≤ n

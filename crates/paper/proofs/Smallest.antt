@@ -1,5 +1,5 @@
--- What `smallest` finds: by induction over the senders, each cell is either passed over or gives a value that passes the test, and the
--- smaller of two such values is kept.
+-- What `smallest` finds: by induction over the senders, each cell is either passed over or gives a value that passes
+-- the test, and the smaller of two such values is kept.
 use mathlib.Core.Path.{_≡_, refl, ap, subst}
 use mathlib.Core.Bool.{Bool, true, false, cond}
 use mathlib.Core.Option.{Option, none, some}
@@ -51,7 +51,8 @@ module _ (test : ℕ → Bool) where
   cell-least c w e t = rw (e, t) (le-refl w)
 
 -- the answer so far and the answer of the next cell, taken together
-joined-source : (test : ℕ → Bool) (n : ℕ) (row : Row) (a b : Option ℕ) → Source n row test a → Source-cell test (row n) b
+joined-source : (test : ℕ → Bool) (n : ℕ) (row : Row) (a b : Option ℕ) → Source n row test a
+    → Source-cell test (row n) b
     → Source (suc n) row test (smaller a b)
 unfolding smaller
 joined-source test n row none none s c = tt
@@ -78,13 +79,15 @@ module _ (row : Row) (test : ℕ → Bool) where
   source : (n : ℕ) → Source n row test (smallest n row test)
   unfolding smallest
   source zero = tt
-  source (suc n) = joined-source test n row (smallest n row test) (candidate test (row n)) (source n) (cell-source test (row n))
+  source (suc n) =
+      joined-source test n row (smallest n row test) (candidate test (row n)) (source n) (cell-source test (row n))
 
   at-most : (n q w : ℕ) → q < n → row q ≡ heard (val w) → test w ≡ true → At-most (smallest n row test) w
   unfolding smallest
   at-most zero q w h e t = omega arith
   at-most (suc n) q w h e t =
-      joined-least (smallest n row test) (candidate test (row n)) w (go (eq-or-lt-of-le (le-of-suc-le-suc h)) (λ l. at-most n q w l e t))
+      joined-least (smallest n row test) (candidate test (row n)) w
+      (go (eq-or-lt-of-le (le-of-suc-le-suc h)) (λ l. at-most n q w l e t))
     where
       go : (q ≡ n) ⊎ (q < n) → (q < n → At-most (smallest n row test) w)
           → At-most (smallest n row test) w ⊎ At-most (candidate test (row n)) w
@@ -104,7 +107,8 @@ smallest-some n row test v e =
     }
 
 -- no answer: no received value passes
-pub smallest-none : (n : ℕ) (row : Row) (test : ℕ → Bool) → smallest n row test ≡ none → (q w : ℕ) → q < n → row q ≡ heard (val w)
+pub smallest-none : (n : ℕ) (row : Row) (test : ℕ → Bool) → smallest n row test ≡ none → (q w : ℕ) → q < n
+    → row q ≡ heard (val w)
     → test w ≡ true → ⊥
 smallest-none n row test e q w h f t = subst (λ a. At-most a w) e (at-most row test n q w h f t)
 

@@ -1,21 +1,21 @@
--- The lock of A is no stronger than it is stated: a run that keeps the predicates, decides, and then has just E + 1 - alpha stations with
--- the value decided, which is not more than E. The checker computes the round.
-use mathlib.Core.Path.{_≡_, refl}
-use mathlib.Core.Bool.{true, cond}
+-- The lock of A is no stronger than it is stated: a run that keeps the predicates, decides, and then has just so many
+-- stations with the value decided that with alpha they pass E; any fewer do not, nor do they alone. The checker
+-- computes the round.
+use mathlib.Core.Path.{_≡_, refl, sym, _∙_}
+use mathlib.Core.Bool.{true, false, cond, false≢true}
 use mathlib.Core.List.{[], _∷_}
-use Prim.Native.Nat.{ℕ, _+_, _≤_, _<_}
-use native.Mathlib.Nat.{le-refl}
+use Prim.Native.Nat.{ℕ, _+_, _<_}
 use native.Mathlib.Omega.{arith}
-use lib.Dec.{eqb, leb}
-use borrow.Author.Tests.{leb-true}
+use lib.Dec.{eqb}
 use Rattle.paper.specs.Stations.{size, every}
 use Rattle.paper.specs.Heard.{val, lost, heard, Matrix, AHO}
-use Rattle.paper.specs.Setup.{A, Setup, acceptable, passesE}
-use Rattle.paper.specs.Rules.{times, after}
+use Rattle.paper.specs.Setup.{A, Setup, whole, acceptable, passes-E, tolerated}
+use Rattle.paper.specs.Rules.{times, deciding, after}
 use Rattle.paper.specs.Run.{opened, Turn, Run, sent, P-alpha, Safe, FiresAt}
 use Rattle.paper.specs.Safety.{holders}
 use Rattle.paper.proofs.Counting.{every-at}
-use Rattle.paper.proofs.Thresholds.{A-not-U}
+use Rattle.paper.proofs.Setups.{A-not-U}
+use Rattle.paper.proofs.Thresholds.{more-pass-E}
 
 -- a run of one round in which v is decided and few hold it
 pub record Meets-bound (S : Setup) : Type 0 where
@@ -28,11 +28,12 @@ pub record Meets-bound (S : Setup) : Type 0 where
   pub safe : Safe S round
   pub below : station < S .n
   pub fires : FiresAt S round station v
-  pub just : size (S .n) (holders (round .after) v) + S .alpha ≡ S .E + 1
-  pub not-more : size (S .n) (holders (round .after) v) ≤ S .E
+  pub just : passes-E S (size (S .n) (holders (round .after) v) + S .alpha) ≡ true
+  pub no-fewer : (k : ℕ) → k < size (S .n) (holders (round .after) v) → ¬ (passes-E S (k + S .alpha) ≡ true)
+  pub not-alone : ¬ (passes-E S (size (S .n) (holders (round .after) v)) ≡ true)
 
 abbrev the-setup : Setup
-the-setup = record { algorithm = A; n = 7; T = 6; E = 6; alpha = 1 }
+the-setup = whole A 7 6 6 1
 
 -- six stations start with 4 and station 6 with 9
 abbrev the-starts : ℕ → ℕ
@@ -52,11 +53,16 @@ the-round =
     }
 
 few-altered : P-alpha the-setup the-round
-unfolding P-alpha the-round opened sent size every AHO
-few-altered p h = leb-true _ 1 (every-at 7 (λ q. leb (size 7 (AHO (the-cells q) (sent the-setup the-round))) 1) refl p h)
+unfolding P-alpha the-round opened sent tolerated size every AHO
+few-altered = every-at 7 (λ q. tolerated the-setup (size 7 (AHO (the-cells q) (sent the-setup the-round)))) refl
+
+-- six stations do not pass E
+six-fail : passes-E the-setup 6 ≡ false
+unfolding passes-E
+six-fail = refl
 
 pub lock-is-tight : Meets-bound the-setup
-unfolding acceptable Run the-round FiresAt passesE opened size holders times after
+unfolding acceptable Run the-round FiresAt passes-E opened size holders times deciding after
 lock-is-tight =
     record {
       allowed = refl;
@@ -69,5 +75,6 @@ lock-is-tight =
       below = omega arith;
       fires = record { rule = refl; enough = refl };
       just = refl;
-      not-more = le-refl 6;
+      no-fewer = λ k h e. false≢true (sym six-fail ∙ more-pass-E the-setup (k + 1) 6 (omega arith) e);
+      not-alone = λ e. false≢true (sym six-fail ∙ e);
     }

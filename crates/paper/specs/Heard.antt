@@ -1,4 +1,4 @@
--- Who heard whom in a round: document 000, section 2.1 and the sets R and Q of section 3.2; document 01, "Who heard whom".
+-- Who heard whom in a round: the paper's section 2.1 and the sets R and Q of its section 3.2; rules 7.1 to 7.7.
 use mathlib.Core.Bool.{Bool, true, false}
 use Prim.Native.Nat.{ℕ}
 use lib.Dec.{eqb}
@@ -43,7 +43,7 @@ unfoldable pub HO : Row → Stations
 unfolding arrived
 HO row q = arrived (row q)
 
--- SHO(p): from whom p heard what that sender's rule prescribes. `sent q` is what q ought to send, to all alike
+-- SHO(p): from whom p heard just what that sender ought to send; `sent q` is that, the same for all (rule 7.2)
 unfoldable pub SHO : Row → (ℕ → Message) → Stations
 unfolding holds
 SHO row sent q = holds (row q) (sent q)

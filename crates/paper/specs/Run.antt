@@ -1,13 +1,13 @@
--- Runs: document 000, section 2.1 (a run is determined by the initial configuration and the reception vectors), and the predicates of
--- equations (2) and (7). 000's runs go on for ever; here a run is any beginning of one, its rounds in order. A judge's run has the rounds that
--- it accepted.
+-- Runs: the paper's section 2.1 (what the stations start with, and what each hears, settle all else), and the
+-- predicates of its equations (2) and (7), rules 10.8 and 10.9. The paper's runs go on for ever; here a run is any
+-- beginning of one, its rounds in order. A judge's run has the rounds that it accepted.
 use mathlib.Core.Path.{_≡_}
 use mathlib.Core.Bool.{true}
 use mathlib.Core.List.{List, [], _∷_}
-use Prim.Native.Nat.{ℕ, suc, _≤_}
+use Prim.Native.Nat.{ℕ, suc}
 use Rattle.paper.specs.Stations.{All, size}
 use Rattle.paper.specs.Heard.{Message, query, Matrix, SHO, AHO}
-use Rattle.paper.specs.Setup.{A, U, Setup, passes-bound}
+use Rattle.paper.specs.Setup.{U, Setup, tolerated, passes-bound}
 use Rattle.paper.specs.Rules.{Station, undecided, Kind, kind-of, sends, after, Fires}
 
 abbrev pub States : Type 0
@@ -25,7 +25,7 @@ pub record Turn : Type 0 where
   pub after : States
 
 -- t is the round after k others, from the states s: it starts there, and each station goes by its rule
-pub record Step (S : Setup) (default k : ℕ) (s : States) (t : Turn) : Type 0 where
+pub record Next (S : Setup) (default k : ℕ) (s : States) (t : Turn) : Type 0 where
   pub counted : t .number ≡ suc k
   pub from : All (S .n) (λ p. t .before p ≡ s p)
   pub by-rule : All (S .n) (λ p. t .after p ≡ after S default (suc k) (t .before p) (t .heard p))
@@ -33,7 +33,7 @@ pub record Step (S : Setup) (default k : ℕ) (s : States) (t : Turn) : Type 0 w
 -- the rounds ts follow one another, after k others, from the states s
 unfoldable pub Rounds : Setup → ℕ → ℕ → States → List Turn → Type 0
 Rounds S default k s [] = Unit {0}
-Rounds S default k s (t ∷ ts) = Step S default k s t × Rounds S default (suc k) (t .after) ts
+Rounds S default k s (t ∷ ts) = Next S default k s t × Rounds S default (suc k) (t .after) ts
 
 -- ts are the rounds, in order, of a run from these starts
 unfoldable pub Run : Setup → ℕ → (ℕ → ℕ) → List Turn → Type 0
@@ -51,7 +51,7 @@ sent S t q = sends (kind S t) (t .before q)
 
 -- equation (2), at one round: |AHO(p)| <= alpha for every p
 unfoldable pub P-alpha : Setup → Turn → Type 0
-P-alpha S t = All (S .n) (λ p. size (S .n) (AHO (t .heard p) (sent S t)) ≤ S .alpha)
+P-alpha S t = All (S .n) (λ p. tolerated S (size (S .n) (AHO (t .heard p) (sent S t))) ≡ true)
 
 -- equation (7), at one round: |SHO(p)| > max(n + 2 alpha - E - 1, T, alpha) for every p
 unfoldable pub P-safe : Setup → Turn → Type 0

@@ -1,12 +1,12 @@
--- What the paper proves of its runs, as statements: Propositions 1, 2, 5 and 6 and Lemmas 5 and 9 of document 000, in the words of
--- demand 3. Each speaks of the rounds of a run.
+-- What the paper proves of its runs, as statements: its Propositions 1, 2, 5 and 6 and its Lemmas 5 and 9, and what is
+-- kept of a decision. Each speaks of the rounds of a run (rules 16.2 to 16.6).
 use mathlib.Core.Path.{_≡_}
 use mathlib.Core.Bool.{true}
 use mathlib.Core.List.{List, List·Memᴰ}
 use Prim.Native.Nat.{ℕ, _+_, _≤_, _<_}
 use lib.Dec.{eqb}
 use Rattle.paper.specs.Stations.{Stations, All, size}
-use Rattle.paper.specs.Setup.{Algorithm, A, U, Setup, acceptable, passesE}
+use Rattle.paper.specs.Setup.{Algorithm, A, U, Setup, acceptable, passes-E}
 use Rattle.paper.specs.Rules.{undecided, decided}
 use Rattle.paper.specs.Run.{States, Turn, Run, Safe, FiresAt}
 
@@ -22,14 +22,14 @@ holders s v p = eqb (s p .estimate) v
 -- under A more than E - alpha stations hold v: holders and alpha together pass E. Under U all of them do
 unfoldable pub Locked-for : Algorithm → Setup → States → ℕ → Type 0
 unfolding holders
-Locked-for A S s v = passesE S (size (S .n) (holders s v) + S .alpha) ≡ true
+Locked-for A S s v = passes-E S (size (S .n) (holders s v) + S .alpha) ≡ true
 Locked-for U S s v = All (S .n) (λ p. s p .estimate ≡ v)
 
 unfoldable pub Locked : Setup → States → ℕ → Type 0
 unfolding Locked-for
 Locked S s v = Locked-for (S .algorithm) S s v
 
--- what the paper asks of a run: the setup meets the inequalities, ts are the run's rounds, and each keeps the predicates
+-- what the paper asks of a run: the setup meets the inequalities, ts are its rounds, and each keeps the predicates
 pub record Lawful (S : Setup) (default : ℕ) (starts : ℕ → ℕ) (ts : List Turn) : Type 0 where
   pub setup : acceptable S ≡ true
   pub rounds : Run S default starts ts
@@ -38,14 +38,16 @@ pub record Lawful (S : Setup) (default : ℕ) (starts : ℕ → ℕ) (ts : List 
 -- wherever the decide rule fires, at one station twice or at two, it names one value (Propositions 1 and 5)
 unfoldable pub Agreement : Setup → List Turn → Type 0
 Agreement S ts =
-    (t u : Turn) (p q v w : ℕ) → t among ts → u among ts → p < S .n → q < S .n → FiresAt S t p v → FiresAt S u q w → v ≡ w
+    (t u : Turn) (p q v w : ℕ) → t among ts → u among ts
+    → p < S .n → q < S .n → FiresAt S t p v → FiresAt S u q w → v ≡ w
 
--- from the end of any round in which it fires, and ever after, the stations are locked to that value (the induction in Lemma 5's proof; Lemma 9
--- and the induction in Proposition 5's proof)
+-- from the end of any round in which it fires, and ever after, the stations are locked to that value (the induction in
+-- Lemma 5's proof; Lemma 9 and the induction in Proposition 5's proof)
 unfoldable pub Lock : Setup → List Turn → Type 0
 unfolding Locked
 Lock S ts =
-    (t u : Turn) (p v : ℕ) → t among ts → u among ts → t .number ≤ u .number → p < S .n → FiresAt S t p v → Locked S (u .after) v
+    (t u : Turn) (p v : ℕ) → t among ts → u among ts
+    → t .number ≤ u .number → p < S .n → FiresAt S t p v → Locked S (u .after) v
 
 -- if all stations start with v, no other value is decided (Propositions 2 and 6)
 unfoldable pub Integrity : Setup → (ℕ → ℕ) → List Turn → Type 0
@@ -58,7 +60,7 @@ pub record FirstFiring (S : Setup) (ts : List Turn) (p v : ℕ) (t : Turn) : Typ
   pub fires : FiresAt S t p v
   pub first : (u : Turn) (w : ℕ) → u among ts → FiresAt S u p w → t .number ≤ u .number
 
--- a decision that is kept is the first firing's, with its round (document 01)
+-- a decision that is kept is the first firing's, with its round (rule 16.5)
 unfoldable pub Kept : Setup → List Turn → Type 0
 Kept S ts =
     (u : Turn) (p v r : ℕ) → u among ts → p < S .n → u .after p .decision ≡ decided v r

@@ -1,6 +1,7 @@
--- The parameters of a run and the inequalities between them: document 000, Theorems 1 and 2 (n > alpha follows from the others); document
--- 01, the setup lines of "Algorithm A" and "Algorithm U".
--- Each inequality has its own name. Whether a count passes T, or E, is said here and nowhere else.
+-- The parameters of a run and the inequalities between them: the paper's Theorems 1 and 2 (n > alpha follows from the
+-- others), rules 10.2 to 10.6, and the bounds of its equations (2) and (7), rules 10.8 and 10.9.
+-- Each inequality has its own name. What the numbers T and E mean is said here and nowhere else: all else goes by
+-- whether a count passes T, or E, or the bound, and by the laws of proofs/Setups and proofs/Thresholds.
 use mathlib.Core.Bool.{Bool, _&&_}
 use Prim.Native.Nat.{ℕ, _+_, _-_, _*_, max}
 use lib.Dec.{leb, ltb}
@@ -15,17 +16,25 @@ pub record Setup : Type 0 where
   pub E : ℕ
   pub alpha : ℕ
 
+-- A(n, T, E, alpha) or U(n, T, E, alpha): the setup with these whole thresholds
+abbrev pub whole : Algorithm → ℕ → ℕ → ℕ → ℕ → Setup
+whole a n T E alpha = record { algorithm = a; n = n; T = T; E = E; alpha = alpha }
+
 -- k messages are more than T (Algorithm 1, line 7; Algorithm 2, line 8)
-unfoldable pub passesT : Setup → ℕ → Bool
-passesT S k = ltb (S .T) k
+unfoldable pub passes-T : Setup → ℕ → Bool
+passes-T S k = ltb (S .T) k
 
 -- k messages are more than E (Algorithm 1, line 9; Algorithm 2, line 18)
-unfoldable pub passesE : Setup → ℕ → Bool
-passesE S k = ltb (S .E) k
+unfoldable pub passes-E : Setup → ℕ → Bool
+passes-E S k = ltb (S .E) k
 
 -- k messages are at least alpha + 1 (Algorithm 2, line 14)
 unfoldable pub vouched : Setup → ℕ → Bool
 vouched S k = leb (S .alpha + 1) k
+
+-- k altered messages are at most alpha (equation (2))
+unfoldable pub tolerated : Setup → ℕ → Bool
+tolerated S k = leb k (S .alpha)
 
 -- n > E
 unfoldable pub E-below-n : Setup → Bool
@@ -35,7 +44,8 @@ E-below-n S = ltb (S .E) (S .n)
 unfoldable pub T-below-n : Setup → Bool
 T-below-n S = ltb (S .T) (S .n)
 
--- T >= 2(n + 2 alpha - E) under A (Theorem 1); 2T >= n + 2 alpha under U (Theorem 2)
+-- T >= 2(n + 2 alpha - E) under A (Theorem 1; with E below n nothing is cut off at 0); 2T >= n + 2 alpha under U
+-- (Theorem 2)
 unfoldable pub T-enough : Algorithm → Setup → Bool
 T-enough A S = leb (2 * (S .n + 2 * S .alpha - S .E)) (S .T)
 T-enough U S = leb (S .n + 2 * S .alpha) (2 * S .T)
@@ -54,7 +64,7 @@ unfoldable pub acceptable : Setup → Bool
 unfolding acceptable-for
 acceptable S = acceptable-for (S .algorithm) S
 
--- the right side of equation (7): the largest of n + 2 alpha - E - 1, T and alpha (in an acceptable setup of U it is T)
+-- the right side of equation (7): T, alpha or n + 2 alpha - E - 1, whichever is greatest (T, in acceptable setups of U)
 unfoldable pub safe-bound : Setup → ℕ
 safe-bound S = max (max (S .n + 2 * S .alpha - S .E - 1) (S .T)) (S .alpha)
 

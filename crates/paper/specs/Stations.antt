@@ -1,4 +1,4 @@
--- Sets of stations and their sizes: document 000, section 2.1; document 01, "Who heard whom".
+-- Sets of stations and their sizes: the paper's section 2.1, rules 7.5 and 7.8.
 -- A station is a number below n, its place, and nothing else tells one station from another.
 use mathlib.Core.Path.{_≡_}
 use mathlib.Core.Bool.{Bool, true, false, not, _&&_}

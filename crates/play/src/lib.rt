@@ -1,39 +1,32 @@
-// Playing a part of a tape: its rounds taken in order, until nothing is left or one is refused (document 01, "What the judge replies").
+// Playing a part of a tape (rules 13.4 to 13.8): its rounds taken in order, until nothing is left or one is refused.
 ghost use mathlib.Core.Path.{_≡_};
-ghost use Prim.Native.Nat.{_+_, _≤_, min};
+ghost use Prim.Native.Nat.{_+_, _≤_};
+ghost use lib.ListN.{take};
+ghost use Rattle.paper.specs.Rules.{update, value, vote};
 ghost use Rattle.run.specs.Keeps.{Keeps};
 ghost use Rattle.run.specs.Run.{most-rounds};
-ghost use Rattle.round.specs.Reading.{round-length};
-ghost use Rattle.judge.specs.Play.{cut, ended, take-rounds, play-of};
-ghost use Rattle.judge.proofs.Plays.{more};
-use judge::Played;
+ghost use Rattle.play.specs.Play.{ended, more, rounds-of, take-rounds, take-tape, play-of, Awaits};
 use judge::step::step;
+use limits::is_u;
 use round::read;
 use run::Reply;
 use run::Run;
-use run::Setup;
-use run::setups;
+use run::block;
 
-// The rounds that are handed on at a time: each one takes a frame, and so a long tape takes no more stack than these.
+// The rounds that are handed on at a time: each takes a frame, and so a long tape takes no more stack than these.
 const PART: usize = 16;
 
-// The lower of the two.
-fn least(a: usize, b: usize) -> usize
-    ensures { λ r. ⌜ r ≡ min a b ⌝ }
-{
-    if a < b { a } else { b }
+// What playing a part answers (rules 13.5 to 13.7): the run, the reply with its place in the refused round, and how
+// many rounds were accepted.
+pub struct Played {
+    pub run: Run,
+    pub reply: Reply,
+    pub rounds: u32,
 }
 
-// The bytes of the next round, or of the rest if that is shorter.
-fn next_size(setup: Setup, left: usize) -> usize
-    ensures { λ r. ⌜ r ≡ min (round-length (setup .n)) left ⌝ }
-{
-    least(read::round_length(setup.n), left)
-}
-
-// The answer where no round was accepted from here on: nothing is left, or this is the refusal.
+// The answer where no round is accepted: nothing is left, or this is the refusal.
 fn ended(run: Run, reply: Reply) -> Played
-    ensures { λ r. ⌜ r ≡ ended run reply 0 ⌝ }
+    ensures { λ r. ⌜ r ≡ ended run reply ⌝ }
 {
     Played {
         run: run,
@@ -56,70 +49,80 @@ fn after(before: u32, a: Played) -> Played
     }
 }
 
-// Takes the next round of U, a value round, and hands the rest on to a vote round.
-fn value_round(run: Run, tape: &[u8]) -> Played
-    requires { ⌜ Keeps run ⌝ }
-    ensures { λ r. ⌜ r ≡ take-rounds run (cut (round-length (run .setup .n)) (now (tape .entry))) ⌝ }
+// Takes the first round of the tape, or the rest if that is shorter; none where nothing is left.
+fn take_first(run: Run, tape: &[u8]) -> Played
+    ensures { λ r. ⌜ r ≡ take-rounds run (take 1 (rounds-of run (now (tape .entry)))) ⌝ }
 {
     if tape.len() == 0 {
         return ended(run, Reply::Accepted);
     }
     let setup = run.setup;
-    let size = next_size(setup, tape.len());
+    let size = block::least(read::round_length(setup.n), tape.len());
     let stepped = step(run, &tape[..size]);
     let reply = stepped.reply;
     if reply.number() != 0 {
         return ended(run, reply);
     }
     let next = stepped.run;
+    Played {
+        run: next,
+        reply: reply,
+        rounds: 1,
+    }
+}
+
+// Takes a value round of U, and hands the rest on to the vote round that follows.
+fn value_round(run: Run, tape: &[u8]) -> Played
+    requires { ⌜ Awaits value run ⌝ }
+    ensures { λ r. ⌜ r ≡ take-tape run (now (tape .entry)) ⌝ }
+{
+    let first = take_first(run, tape);
+    if first.rounds == 0 {
+        return first;
+    }
+    let next = first.run;
+    let setup = next.setup;
+    let size = read::round_length(setup.n);
     after(1, vote_round(next, &tape[size..]))
 }
 
-// Takes the next round of U, a vote round, and hands the rest on to a value round.
+// Takes a vote round of U, and hands the rest on to the value round that follows.
 fn vote_round(run: Run, tape: &[u8]) -> Played
-    requires { ⌜ Keeps run ⌝ }
-    ensures { λ r. ⌜ r ≡ take-rounds run (cut (round-length (run .setup .n)) (now (tape .entry))) ⌝ }
+    requires { ⌜ Awaits vote run ⌝ }
+    ensures { λ r. ⌜ r ≡ take-tape run (now (tape .entry)) ⌝ }
 {
-    if tape.len() == 0 {
-        return ended(run, Reply::Accepted);
+    let first = take_first(run, tape);
+    if first.rounds == 0 {
+        return first;
     }
-    let setup = run.setup;
-    let size = next_size(setup, tape.len());
-    let stepped = step(run, &tape[..size]);
-    let reply = stepped.reply;
-    if reply.number() != 0 {
-        return ended(run, reply);
-    }
-    let next = stepped.run;
+    let next = first.run;
+    let setup = next.setup;
+    let size = read::round_length(setup.n);
     after(1, value_round(next, &tape[size..]))
 }
 
-// Takes the next round of A, whose rounds are all alike, and hands the rest on.
+// Takes a round of A, and hands the rest on: its rounds are all of one kind.
 fn round_of_a(run: Run, tape: &[u8]) -> Played
-    requires { ⌜ Keeps run ⌝ }
-    ensures { λ r. ⌜ r ≡ take-rounds run (cut (round-length (run .setup .n)) (now (tape .entry))) ⌝ }
+    requires { ⌜ Awaits update run ⌝ }
+    ensures { λ r. ⌜ r ≡ take-tape run (now (tape .entry)) ⌝ }
 {
-    if tape.len() == 0 {
-        return ended(run, Reply::Accepted);
+    let first = take_first(run, tape);
+    if first.rounds == 0 {
+        return first;
     }
-    let setup = run.setup;
-    let size = next_size(setup, tape.len());
-    let stepped = step(run, &tape[..size]);
-    let reply = stepped.reply;
-    if reply.number() != 0 {
-        return ended(run, reply);
-    }
-    let next = stepped.run;
+    let next = first.run;
+    let setup = next.setup;
+    let size = read::round_length(setup.n);
     after(1, round_of_a(next, &tape[size..]))
 }
 
 // Plays a few rounds, by the kind of the round that the run waits for.
 fn play_part(run: Run, tape: &[u8]) -> Played
     requires { ⌜ Keeps run ⌝ }
-    ensures { λ r. ⌜ r ≡ take-rounds run (cut (round-length (run .setup .n)) (now (tape .entry))) ⌝ }
+    ensures { λ r. ⌜ r ≡ take-tape run (now (tape .entry)) ⌝ }
 {
     let setup = run.setup;
-    if !setups::is_u(setup) {
+    if !is_u(setup) {
         return round_of_a(run, tape);
     }
     if rules::may_vote(setup, run.clock) {
@@ -131,7 +134,7 @@ fn play_part(run: Run, tape: &[u8]) -> Played
 // Plays a tape of any length, PART rounds at a time.
 fn play_parts(run: Run, tape: &[u8]) -> Played
     requires { ⌜ Keeps run ⌝ }
-    ensures { λ r. ⌜ r ≡ take-rounds run (cut (round-length (run .setup .n)) (now (tape .entry))) ⌝ }
+    ensures { λ r. ⌜ r ≡ take-tape run (now (tape .entry)) ⌝ }
 {
     let setup = run.setup;
     let size = PART * read::round_length(setup.n);
@@ -142,7 +145,7 @@ fn play_parts(run: Run, tape: &[u8]) -> Played
     };
     let mut at = 0;
     while at < tape.len() {
-        let end = at + least(size, tape.len() - at);
+        let end = at + block::least(size, tape.len() - at);
         let now = played.run;
         let part = play_part(now, &tape[at..end]);
         let reply = part.reply;

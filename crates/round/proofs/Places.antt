@@ -1,8 +1,11 @@
--- A record's number in a round of n stations, and its receiver and its sender: record n p + q is that of receiver p and sender q.
+-- A record's number in a round of n stations, and its receiver and its sender: record n p + q is that of receiver p and
+-- sender q.
 use mathlib.Core.Path.{_≡_, _∙_}
-use Prim.Native.Nat.{ℕ, zero, suc, _*_, _/_, _%_, _<_, _≤_}
-use native.Mathlib.Nat.{add-zero, mul-add-div, mul-add-mod-self-left, div-eq-of-lt, mod-eq-of-lt, div-add-mod, mod-lt, div-lt-iff-lt-mul, mul-le-mul, mul-suc}
+use Prim.Native.Nat.{ℕ, zero, suc, _+_, _*_, _/_, _%_, _<_, _≤_}
+use native.Mathlib.Nat.{add-zero, mul-add-div, mul-add-mod-self-left, div-eq-of-lt, mod-eq-of-lt, div-add-mod, mod-lt}
+use native.Mathlib.Nat.{div-lt-iff-lt-mul, mul-le-mul, mul-suc}
 use native.Mathlib.Omega.{arith}
+use Rattle.run.specs.Run.{stations}
 use Rattle.round.specs.Reading.{cell-number}
 
 -- two bytes' product
@@ -36,3 +39,7 @@ receiver-below n k l = div-lt-iff-lt-mul (some-station n k l) .1 l
 
 pub sender-below : (n k : ℕ) → k < n * n → k % n < n
 sender-below n k l = mod-lt k (some-station n k l)
+
+-- so a record of at most as many stations as an array has places has its place in the matrix
+pub place-below : (n k : ℕ) → n ≤ stations → k < n * n → stations * (k / n) + k % n < stations * stations
+place-below n k small l = omega (arith, receiver-below n k l, sender-below n k l)

@@ -33,10 +33,12 @@ module _ (f : ℕ → Reply) where
   unfolding in-turn
   turn-stop zero i e h l = absurd (not-suc-le-zero l)
   turn-stop (suc n) i e h l =
-      ⊎-elim (λ q. rw (← q, e)) (λ q. then-stop (in-turn n f) (f n) (ap is-accepted (turn-stop n i e h q) ∙ h) ∙ turn-stop n i e h q)
+      ⊎-elim (λ q. rw (← q, e)) (λ q. then-stop (in-turn n f) (f n) (ap is-accepted (turn-stop n i e h q) ∙ h)
+      ∙ turn-stop n i e h q)
       (eq-or-lt-of-le (le-of-suc-le-suc l))
 
-  pub turn-returns : (n i : ℕ) {r : Reply} → in-turn i f ≡ Accepted → r ≡ f i → is-accepted (f i) ≡ false → i < n → r ≡ in-turn n f
+  pub turn-returns : (n i : ℕ) {r : Reply} → in-turn i f ≡ Accepted → r ≡ f i → is-accepted (f i) ≡ false → i < n
+      → r ≡ in-turn n f
   turn-returns n i e here h l = here ∙ sym (turn-stop n i e h l)
 
   turn-all : (n : ℕ) → in-turn n f ≡ Accepted → AllBelow n
@@ -78,12 +80,15 @@ then-end r = go (is-accepted r) refl
 pub turn-add : (m n : ℕ) (f : ℕ → Reply) → in-turn (m + n) f ≡ (in-turn m f then in-turn n (λ i. f (m + i)))
 unfolding in-turn
 turn-add m zero f = rw add-zero (sym (then-end (in-turn m f)))
-turn-add m (suc n) f = rw (add-suc m n, turn-add m n f) (then-assoc (in-turn m f) (in-turn n (λ i. f (m + i))) (f (m + n)))
+turn-add m (suc n) f =
+    rw (add-suc m n, turn-add m n f) (then-assoc (in-turn m f) (in-turn n (λ i. f (m + i))) (f (m + n)))
 
-pub turn-rows : (m n : ℕ) (f : ℕ → ℕ → Reply) → in-turn n (λ p. in-turn m (f p)) ≡ in-turn (m * n) (λ k. f (k / m) (k % m))
+pub turn-rows : (m n : ℕ) (f : ℕ → ℕ → Reply)
+    → in-turn n (λ p. in-turn m (f p)) ≡ in-turn (m * n) (λ k. f (k / m) (k % m))
 unfolding in-turn
 turn-rows m zero f = rw mul-zero
 turn-rows m (suc n) f =
     rw (mul-suc m n, turn-add, turn-rows m n f)
     (ap (λ (r : Reply). in-turn (m * n) (λ k. f (k / m) (k % m)) then r)
-    (turn-same m (f n) (λ i. f ((m * n + i) / m) ((m * n + i) % m)) (λ i l. rw (receiver-of m n i l, sender-of m n i l))))
+    (turn-same m (f n) (λ i. f ((m * n + i) / m) ((m * n + i) % m))
+    (λ i l. rw (receiver-of m n i l, sender-of m n i l))))

@@ -1,4 +1,6 @@
--- What the contracts of this crate cite.
-pub mod Cells
-pub mod Reading
-pub mod Writing
+-- What a reader must believe.
+pub mod Cells  -- cells and their records
+pub mod Reading  -- rounds read
+pub mod Bridge  -- what the judge holds, as the paper has it
+-- How the code works it out: nothing to believe, each is proved to be one of the above.
+pub mod ByRow  -- rows read one by one

@@ -1,8 +1,6 @@
-// A round: read into the matrix, and written from it (document 01, "Tape").
+// A round: its cells, and the matrix that it is read into (rule 4). Crate writing writes it.
 pub mod read; // rounds read
-pub mod write; // rounds written
 
-ghost use mathlib.Core.Path.{_≡_};
 use run::Reply;
 use run::Run;
 

@@ -1,11 +1,14 @@
-// Rounds read: record by record into rows and the matrix (document 01, "Tape", "What the judge replies").
+// Rounds read: record by record into rows and the matrix (rules 4.3 to 4.8 and 12.5).
 ghost use mathlib.Core.Path.{_≡_};
 ghost use mathlib.Core.Bool.{_&&_, _||_};
-ghost use Prim.Native.Nat.{_+_, _*_, _/_, _%_, min, _≤_, _<_};
+ghost use Prim.Native.Nat.{_*_, _≤_};
 ghost use lib.Dec.{eqb};
-ghost use Rattle.round.specs.Cells.{cell-fits, cell-in, check-cell};
+ghost use Rattle.run.specs.Kinds as kinds;
 ghost use Rattle.run.specs.Run.{stations};
-ghost use Rattle.round.specs.Reading.{row-part, read-row, check-cells, round-length, check-reading, cells, matrix-of, read-round, row-slots};
+ghost use Rattle.round.specs.ByRow.{read-row};
+ghost use Rattle.round.specs.Cells.{cell-fits, cell-in, check-cell};
+ghost use Rattle.round.specs.Reading.{row-part, check-cells, round-length, check-reading, cells, matrix-of};
+ghost use Rattle.round.specs.Reading.{read-round, row-slots};
 use super::Cell;
 use super::Matrix;
 use super::Reading;
@@ -13,21 +16,16 @@ use super::Row;
 use super::Slot;
 use run::Reply;
 use run::Run;
+use run::block;
+use run::kinds;
 use run::record;
 use run::record::Record;
 
-// The kinds of a cell's record.
-pub const VALUE: u8 = 4;
-
-pub const QUERY: u8 = 5;
-
-pub const LOST: u8 = 6;
-
 // Whether the kind is one of a cell, with a number only where a value was heard.
 fn is_cell(kind: u8, number: u32) -> bool
-    ensures { λ b. ⌜ b ≡ (eqb kind 4 || (eqb kind 5 || eqb kind 6) && eqb number 0) ⌝ }
+    ensures { λ b. ⌜ b ≡ (eqb kind kinds.HEARD || (eqb kind kinds.HEARD-QUERY || eqb kind kinds.LOST) && eqb number 0) ⌝ }
 {
-    kind == VALUE || number == 0 && (kind == QUERY || kind == LOST)
+    kind == kinds::HEARD || number == 0 && (kind == kinds::HEARD_QUERY || kind == kinds::LOST)
 }
 
 // Whether the record is one of receiver p and sender q.
@@ -41,26 +39,26 @@ fn cell_fits(p: u8, q: u8, r: Record) -> bool
 fn cell_in(r: Record) -> Cell
     ensures { λ c. ⌜ c ≡ cell-in r ⌝ }
 {
-    if r.kind == VALUE {
+    if r.kind == kinds::HEARD {
         return Cell::Value(r.number);
     }
-    if r.kind == QUERY {
+    if r.kind == kinds::HEARD_QUERY {
         return Cell::Query;
     }
     Cell::Lost
 }
 
 // Refuses record number `at`, of receiver p and sender q, if it is no such record, or a "?" outside a vote round.
-fn check_cell(votes: bool, at: u32, p: u8, q: u8, r: Record) -> Reply
-    ensures { λ reply. ⌜ reply ≡ check-cell votes at p q r ⌝ }
+fn check_cell(voting: bool, at: u32, p: u8, q: u8, r: Record) -> Reply
+    ensures { λ reply. ⌜ reply ≡ check-cell voting at p q r ⌝ }
 {
     if !cell_fits(p, q, r) {
         return Reply::Malformed(at);
     }
-    if votes {
+    if voting {
         return Reply::Accepted;
     }
-    if r.kind == QUERY {
+    if r.kind == kinds::HEARD_QUERY {
         return Reply::Query(at);
     }
     Reply::Accepted
@@ -72,28 +70,21 @@ pub fn row_part(round: &[u8], n: u8, p: u8) -> &[u8]
 {
     let size = Run::RECORD * (n as usize);
     let from = size * (p as usize);
-    let start = least(from, round.len());
-    let end = least(from + size, round.len());
+    let start = block::least(from, round.len());
+    let end = block::least(from + size, round.len());
     &round[start..end]
 }
 
-// The smaller of two numbers.
-fn least(a: usize, b: usize) -> usize
-    ensures { λ r. ⌜ r ≡ min a b ⌝ }
-{
-    if a < b { a } else { b }
-}
-
 // Reads the row of receiver p in a round of n stations: its cells, or what is wrong in the first record at fault.
-pub fn read_row(row: &[u8], votes: bool, p: u8, n: u8) -> Row
-    ensures { λ r. ⌜ r ≡ read-row votes n p (now (row .entry)) ⌝ }
+pub fn read_row(row: &[u8], voting: bool, p: u8, n: u8) -> Row
+    ensures { λ r. ⌜ r ≡ read-row voting n p (now (row .entry)) ⌝ }
 {
     let mut cells = [Slot { cell: Cell::Lost }; Run::STATIONS];
     let mut q: u8 = 0;
     while q < n {
         let at = q as usize;
         let r = record::record_at(row, at);
-        let reply = check_cell(votes, (n as u32) * (p as u32) + (q as u32), p, q, r);
+        let reply = check_cell(voting, (n as u32) * (p as u32) + (q as u32), p, q, r);
         if reply.number() != 0 {
             return Row {
                 reply,
@@ -112,12 +103,12 @@ pub fn read_row(row: &[u8], votes: bool, p: u8, n: u8) -> Row
 }
 
 // Reads the rows of a round of n stations in order, and refuses the first record at fault.
-fn check_cells(round: &[u8], votes: bool, n: u8) -> Reply
-    ensures { λ r. ⌜ r ≡ check-cells votes n (now (round .entry)) ⌝ }
+fn check_cells(round: &[u8], voting: bool, n: u8) -> Reply
+    ensures { λ r. ⌜ r ≡ check-cells voting n (now (round .entry)) ⌝ }
 {
     let mut p: u8 = 0;
     while p < n {
-        let row = read_row(row_part(round, n, p), votes, p, n);
+        let row = read_row(row_part(round, n, p), voting, p, n);
         let reply = row.reply;
         if reply.number() != 0 {
             return reply;
@@ -128,18 +119,10 @@ fn check_cells(round: &[u8], votes: bool, n: u8) -> Reply
 }
 
 // The records of a round of n stations.
-pub(crate) fn records(n: u8) -> usize
+pub fn records(n: u8) -> usize
     ensures { λ r. ⌜ (r ≡ n * n) × (r ≤ 65025) ⌝ }
 {
     (n as usize) * (n as usize)
-}
-
-// The place in the matrix of record k of a round of n stations: that of receiver k / n and sender k % n.
-pub(crate) fn place_of(k: usize, n: usize) -> usize
-    requires { ⌜ (n ≤ stations) × (k < n * n) ⌝ }
-    ensures { λ r. ⌜ (r ≡ stations * (k / n) + k % n) × (r < stations * stations) ⌝ }
-{
-    Run::STATIONS * (k / n) + k % n
 }
 
 // The cells of a round of n stations, each record's at its place; the places outside n by n stay lost.
@@ -152,7 +135,7 @@ fn fill(round: &[u8], n: u8) -> Matrix
     let all = records(n);
     let mut k: usize = 0;
     while k < all {
-        let place = place_of(k, size);
+        let place = Run::STATIONS * (k / size) + k % size;
         let r = record::record_at(round, k);
         slots[place] = Slot { cell: cell_in(r) };
         k += 1;
@@ -167,7 +150,7 @@ pub fn round_length(n: u8) -> usize
     Run::RECORD * records(n)
 }
 
-// Refuses what is no round that the run may read: 10, 1, then record by record 2 before 5.
+// Refuses what is no round that the run may read (rule 12.5).
 pub fn check_reading(run: Run, round: &[u8]) -> Reply
     ensures { λ r. ⌜ r ≡ check-reading run (now (round .entry)) ⌝ }
 {

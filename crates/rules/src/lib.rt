@@ -1,23 +1,36 @@
-// The rules of a run (document 01, "Run and image"): what every run that an opening or an image gives keeps.
+// The rules of a run (rules 5.2 to 5.9): what every run that an opening or an image gives keeps.
 ghost use mathlib.Core.Path.{_≡_};
-ghost use Rattle.run.specs.Run.{may-vote, may-decide, vote-fits, decision-fits, kept-fits, station-fits, clear, place-fits, head-fits, sound};
+ghost use Rattle.run.specs.Run.{
+  may-vote,
+  may-decide,
+  vote-fits,
+  decision-fits,
+  kept-fits,
+  station-fits,
+  clear,
+  place-fits,
+  head-fits,
+  sound,
+};
+use limits::Setup;
+use limits::inequalities::acceptable;
+use limits::is_u;
 use run::Run;
-use run::Setup;
 use run::Station;
-use run::setups;
+use run::head;
 
 // Votes stand between a value round and its vote round, and only U has these.
 pub fn may_vote(s: Setup, clock: u32) -> bool
     ensures { λ r. ⌜ r ≡ may-vote s clock ⌝ }
 {
-    setups::is_u(s) && clock % 2 == 1
+    is_u(s) && clock % 2 == 1
 }
 
 // A decision's round is one that was accepted, and under U a vote round.
 fn may_decide(s: Setup, clock: u32, round: u32) -> bool
     ensures { λ r. ⌜ r ≡ may-decide s clock round ⌝ }
 {
-    round >= 1 && (round <= clock && (!setups::is_u(s) || round % 2 == 0))
+    round >= 1 && (round <= clock && (!is_u(s) || round % 2 == 0))
 }
 
 pub fn vote_fits(s: Setup, clock: u32, voted: bool) -> bool
@@ -74,8 +87,7 @@ fn place_fits(s: Setup, clock: u32, i: usize, p: Station) -> bool
 fn head_fits(s: Setup, default: u32, clock: u32) -> bool
     ensures { λ r. ⌜ r ≡ head-fits s default clock ⌝ }
 {
-    setups::in_range(s)
-        && (setups::acceptable(s) && (setups::default_fits(s, default) && clock <= Run::ROUNDS))
+    head::in_range(s) && (acceptable(s) && (head::default_fits(s, default) && clock <= Run::ROUNDS))
 }
 
 // Whether the run keeps every rule, whatever it holds.

@@ -1,5 +1,5 @@
--- Blocks, written and read. A written block stands between what was before it and behind it; each record that fits is the one that is written of
--- what is read from it, and the arrays that are written are read again.
+-- Blocks, written and read. A written block stands between what was before it and behind it; each record that fits is
+-- the one that is written of what is read from it, and the arrays that are written are read again.
 use mathlib.Core.Path.{_≡_, refl, ap, sym, _∙_}
 use mathlib.Core.Logic.{_↔_, _≢_, _⊎_, inl, inr, ⊎-elim}
 use mathlib.Core.Bool.{Bool, true, false, not, _||_, and-eq-true-iff, or-true, true≢false}
@@ -8,31 +8,44 @@ use mathlib.Core.Option.{Option, none, some}
 use Prim.Native.Nat.{ℕ, zero, suc, _+_, _*_, _/_, _^_, _<_, _≤_}
 use native.Mathlib.Numerals.{add-one}
 use native.Mathlib.Omega.{arith}
-use borrow.Author.Tests.{eq-eqb, ne-eqb, eqb-true, eqb-false, ltb-true, ltb-false, not-true, not-false}
+use borrow.Author.Tests.{eq-eqb, ne-eqb, eqb-true, ltb-true, ltb-false, not-true, not-false}
 use lib.Dec.{eqb, ltb}
-use lib.ListN.{length, getD, take, drop, length-append, length-take, length-drop, take-append-drop, List·getD-eq-default}
+use lib.ListN.{length, getD, drop, length-append, length-take, length-drop}
 use lib.Seq.{drop-drop}
+use Rattle.run.specs.Number.{base}
 use Rattle.run.specs.declared.record.Record.{Record}
 use Rattle.run.specs.declared.block.Shape.{Shape}
 use Rattle.run.specs.declared.block.Shape.the-variants.{Number, Maybe}
 use Rattle.run.specs.declared.Reply.the-variants.{Accepted, Malformed}
-use Rattle.run.specs.Bytes.{IsBytes}
-use Rattle.run.specs.Record.{recordAt, recordBytes, putAt, Fits}
+use Rattle.run.specs.Record.{record-bytes, record-at, bytes-of, put-at, Fits}
 use Rattle.run.specs.Written.{written}
 use Rattle.run.specs.First.{first}
 use Rattle.run.specs.Reply.{is-accepted}
 use Rattle.run.specs.Run.{stations}
-use Rattle.run.specs.Block.{plain, is-plain, record-of, block-fits, check-block, numbers-in, flags-in, block-record, put-block}
+use Rattle.run.specs.Block.{
+  plain,
+  is-plain,
+  record-of,
+  block-fits,
+  check-block,
+  numbers-in,
+  flags-in,
+  block-record,
+}
+use Rattle.run.specs.Putting.{put-block}
 use Rattle.run.proofs.Bytes.{bytes-drop}
-use Rattle.run.proofs.Records.{length-recordBytes, recordAt-front, recordAt-back, recordAt-drop, putAt-in, putAt-out, putAt-back}
-use Rattle.run.proofs.Written.{length-written, recordAt-written, written-take, written-same}
+use Rattle.run.proofs.Records.{
+  length-bytes-of,
+  record-at-front,
+  record-at-back,
+  put-at-in,
+  put-at-out,
+  put-at-back,
+}
+use Rattle.run.proofs.Written.{length-written, record-at-written, written-take, written-same}
 use Rattle.run.proofs.First.{first-none, first-some}
 use Rattle.run.proofs.Filled.{length-filled, filled-below, filled-above, filled-of}
 use Rattle.run.proofs.Replies.{refuse-at-accepted, accepted-refuse-at}
-
--- a list read past its end gives the default
-pub past-end {ℓ} : {A : Type ℓ} (m : ℕ) (l : List A) (d : A) (i : ℕ) → length l ≡ m → m ≤ i → d ≡ getD l i d
-past-end m l d i e h = sym (List·getD-eq-default l d (omega arith))
 
 -- ---- a plain record
 pub is-plain-plain : (kind i number : ℕ) → is-plain kind i (plain kind i number) ≡ true
@@ -48,10 +61,15 @@ plain-is kind i r e =
     let same : _≡_ {A = Record}
     (record { kind = r .kind; first = r .first; second = r .second; third = r .third; number = r .number })
     (record { kind = kind; first = i; second = 0; third = 0; number = r .number })
-    = rw (eqb-true (r .kind) kind k, eqb-true (r .first) i f, eqb-true (r .second) 0 second, eqb-true (r .third) 0 third) in
+    = rw (
+      eqb-true (r .kind) kind k,
+      eqb-true (r .first) i f,
+      eqb-true (r .second) 0 second,
+      eqb-true (r .third) 0 third,
+    ) in
     same
 
-pub plain-fits : (kind i number : ℕ) → kind < 256 → i < 256 → number < 2 ^ 32 → Fits (plain kind i number)
+pub plain-fits : (kind i number : ℕ) → kind < base → i < base → number < 2 ^ 32 → Fits (plain kind i number)
 unfolding plain
 plain-fits kind i number k l h = record { kind = k; first = l; second = omega arith; third = omega arith; number = h }
 
@@ -60,52 +78,51 @@ pub put-block-zero : (bs : List ℕ) (start : ℕ) (f : ℕ → Record) → put-
 unfolding put-block
 put-block-zero bs start f = refl
 
-pub put-block-more : (bs : List ℕ) (start n : ℕ) (f : ℕ → Record) → put-block bs start (n + 1) f ≡ putAt (put-block bs start n f) (start + n) (f n)
+pub put-block-more : (bs : List ℕ) (start n : ℕ) (f : ℕ → Record) → put-block bs start (n + 1) f
+    ≡ put-at (put-block bs start n f) (start + n) (f n)
 unfolding put-block
 put-block-more bs start n f = rw add-one
 
 -- behind some records
-pub put-block-back : (xs bs : List ℕ) (start n : ℕ) (f : ℕ → Record) → length xs ≡ 8 * start → 8 * n ≤ length bs
-    → put-block (xs ++ bs) start n f ≡ xs ++ written n f ++ drop (8 * n) bs
+pub put-block-back : (xs bs : List ℕ) (start n : ℕ) (f : ℕ → Record) → length xs ≡ record-bytes * start
+    → record-bytes * n ≤ length bs
+    → put-block (xs ++ bs) start n f ≡ xs ++ written n f ++ drop (record-bytes * n) bs
 unfolding put-block written
 put-block-back xs bs start zero f e h = rw append-nil
 put-block-back xs bs start (suc n) f e h =
-    let next : 8 * suc n ≡ 8 * n + 8 = omega arith in
+    let next : record-bytes * suc n ≡ record-bytes * n + record-bytes = omega arith in
     rw (put-block-back xs bs start n f e (omega arith), next)
-    (putAt-back (xs ++ written n f) (drop (8 * n) bs) (start + n) (f n) (rw (length-append, length-written) (omega arith)) (rw length-drop (omega arith))
-    ∙ rw (drop-drop 8 (8 * n) bs, append-assoc xs (written n f) (recordBytes (f n))))
+    (put-at-back (xs ++ written n f) (drop (record-bytes * n) bs) (start + n) (f n) (rw (length-append, length-written)
+    (omega arith)) (rw length-drop (omega arith))
+    ∙ rw (drop-drop record-bytes (record-bytes * n) bs, append-assoc xs (written n f) (bytes-of (f n))))
 
-pub put-block-is : (bs : List ℕ) (start n : ℕ) (f : ℕ → Record) → 8 * (start + n) ≤ length bs
-    → put-block bs start n f ≡ take (8 * start) bs ++ written n f ++ drop (8 * (start + n)) bs
-put-block-is bs start n f h =
-    let parts : 8 * (start + n) ≡ 8 * start + 8 * n = omega arith in
-    ap (λ (l : List ℕ). put-block l start n f) (sym (take-append-drop (8 * start) bs))
-    ∙ put-block-back (take (8 * start) bs) (drop (8 * start) bs) start n f (rw length-take (omega arith)) (rw length-drop (omega arith))
-    ∙ rw (drop-drop (8 * n) (8 * start) bs, parts)
-
-pub length-putAt : (bs : List ℕ) (i : ℕ) (r : Record) → length (putAt bs i r) ≡ length bs
-length-putAt bs i r = go (ltb i (length bs / 8)) refl
+pub length-put-at : (bs : List ℕ) (i : ℕ) (r : Record) → length (put-at bs i r) ≡ length bs
+length-put-at bs i r = go (ltb i (length bs / record-bytes)) refl
   where
-    go : (b : Bool) → ltb i (length bs / 8) ≡ b → length (putAt bs i r) ≡ length bs
+    go : (b : Bool) → ltb i (length bs / record-bytes) ≡ b → length (put-at bs i r) ≡ length bs
     go true q =
-        let l : i < length bs / 8 = ltb-true _ _ q in
-        rw (putAt-in bs i r l) (simp (length-append, length-take, length-drop, length-recordBytes) (omega arith))
-    go false q = rw (putAt-out bs i r (ltb-false _ _ q))
+        let l : i < length bs / record-bytes = ltb-true _ _ q in
+        rw (put-at-in bs i r l) (simp (length-append, length-take, length-drop, length-bytes-of) (omega arith))
+    go false q = rw (put-at-out bs i r (ltb-false _ _ q))
 
 pub length-put-block : (bs : List ℕ) (start n : ℕ) (f : ℕ → Record) → length (put-block bs start n f) ≡ length bs
 unfolding put-block
 length-put-block bs start zero f = refl
-length-put-block bs start (suc n) f = length-putAt (put-block bs start n f) (start + n) (f n) ∙ length-put-block bs start n f
+length-put-block bs start (suc n) f = length-put-at (put-block bs start n f) (start + n) (f n)
+    ∙ length-put-block bs start n f
 
 -- its records stand behind those before it
-pub recordAt-between : (xs ys : List ℕ) (start n : ℕ) (f : ℕ → Record) → length xs ≡ 8 * start → (i : ℕ) → i < n → Fits (f i)
-    → recordAt (xs ++ written n f ++ ys) (start + i) ≡ f i
-recordAt-between xs ys start n f e i l h =
-    rw (append-assoc xs (written n f) ys, recordAt-back xs (written n f ++ ys) start i e)
-    (recordAt-front (written n f) ys i (rw length-written (omega arith)) ∙ recordAt-written n f i l h)
+pub record-at-between : (xs ys : List ℕ) (start n : ℕ) (f : ℕ → Record) → length xs ≡ record-bytes * start → (i : ℕ)
+    → i < n
+    → Fits (f i)
+    → record-at (xs ++ written n f ++ ys) (start + i) ≡ f i
+record-at-between xs ys start n f e i l h =
+    rw (append-assoc xs (written n f) ys, record-at-back xs (written n f ++ ys) start i e)
+    (record-at-front (written n f) ys i (rw length-written (omega arith)) ∙ record-at-written n f i l h)
 
 -- functions that agree below n are written alike
-pub put-block-same : (bs : List ℕ) (start n : ℕ) (f g : ℕ → Record) → ((i : ℕ) → i < n → f i ≡ g i) → put-block bs start n f ≡ put-block bs start n g
+pub put-block-same : (bs : List ℕ) (start n : ℕ) (f g : ℕ → Record) → ((i : ℕ) → i < n → f i ≡ g i)
+    → put-block bs start n f ≡ put-block bs start n g
 unfolding put-block
 put-block-same bs start zero f g h = refl
 put-block-same bs start (suc n) f g h = rw (put-block-same bs start n f g (λ i l. h i (omega arith)), h n (omega arith))
@@ -113,10 +130,10 @@ put-block-same bs start (suc n) f g h = rw (put-block-same bs start n f g (λ i 
 -- ---- one record of a block
 -- the kinds are bytes
 abbrev pub KindsFit : Shape → Type 0
-KindsFit (Number kind) = kind < 256
-KindsFit (Maybe without given) = (without < 256) × (given < 256)
+KindsFit (Number kind) = kind < base
+KindsFit (Maybe without given) = (without < base) × (given < base)
 
-pub record-of-fits : (shape : Shape) (i : ℕ) (there : Bool) (number : ℕ) → KindsFit shape → i < 256 → number < 2 ^ 32
+pub record-of-fits : (shape : Shape) (i : ℕ) (there : Bool) (number : ℕ) → KindsFit shape → i < base → number < 2 ^ 32
     → Fits (record-of shape i there number)
 unfolding record-of
 record-of-fits (Number kind) i there number k l h = plain-fits kind i number k l h
@@ -124,14 +141,17 @@ record-of-fits (Maybe without given) i true number k l h = plain-fits given i nu
 record-of-fits (Maybe without given) i false number k l h = plain-fits without i 0 (k .0) l (omega arith)
 
 -- what is written fits
-pub block-fits-record-of : (shape : Shape) (i : ℕ) (there : Bool) (number : ℕ) → block-fits shape i (record-of shape i there number) ≡ true
+pub block-fits-record-of : (shape : Shape) (i : ℕ) (there : Bool) (number : ℕ)
+    → block-fits shape i (record-of shape i there number) ≡ true
 unfolding block-fits record-of
 block-fits-record-of (Number kind) i there number = is-plain-plain kind i number
 block-fits-record-of (Maybe without given) i true number = rw is-plain-plain
-block-fits-record-of (Maybe without given) i false number = rw (is-plain-plain without i 0) (or-true (is-plain given i (plain without i 0)))
+block-fits-record-of (Maybe without given) i false number = rw (is-plain-plain without i 0)
+    (or-true (is-plain given i (plain without i 0)))
 
 -- the flag and the number are read off a record that may come without one
-pub maybe-flag : (without given i : ℕ) (there : Bool) (number : ℕ) → without ≢ given → eqb (record-of (Maybe without given) i there number .kind) given ≡ there
+pub maybe-flag : (without given i : ℕ) (there : Bool) (number : ℕ) → without ≢ given
+    → eqb (record-of (Maybe without given) i there number .kind) given ≡ there
 unfolding record-of plain
 maybe-flag without given i true number other = eq-eqb given given refl
 maybe-flag without given i false number other = ne-eqb without given other
@@ -143,7 +163,8 @@ maybe-number without given i true number z = refl
 maybe-number without given i false number z = sym (z refl)
 
 -- what fits is what is written of its number, and of whether it has the kind with a number
-pub number-record : (kind i : ℕ) (there : Bool) (r : Record) → block-fits (Number kind) i r ≡ true → r ≡ record-of (Number kind) i there (r .number)
+pub number-record : (kind i : ℕ) (there : Bool) (r : Record) → block-fits (Number kind) i r ≡ true → r
+    ≡ record-of (Number kind) i there (r .number)
 unfolding block-fits record-of
 number-record kind i there r e = plain-is kind i r e
 
@@ -167,7 +188,8 @@ pub maybe-record : (without given i : ℕ) (r : Record) → block-fits (Maybe wi
 unfolding record-of
 maybe-record without given i r e = go (eqb (r .kind) given) refl (maybe-either without given i r e)
   where
-    go : (b : Bool) → eqb (r .kind) given ≡ b → (is-plain given i r ≡ true) ⊎ ((is-plain without i r ≡ true) × (r .number ≡ 0))
+    go : (b : Bool) → eqb (r .kind) given ≡ b → (is-plain given i r ≡ true) ⊎ ((is-plain without i r ≡ true)
+        × (r .number ≡ 0))
         → r ≡ record-of (Maybe without given) i b (r .number)
     go b q (inl p) = rw (sym q ∙ eq-eqb _ _ (plain-kind given i r p)) (plain-is given i r p)
     go true q (inr w) =
@@ -175,39 +197,40 @@ maybe-record without given i r e = go (eqb (r .kind) given) refl (maybe-either w
         ∙ ap (λ (k : ℕ). plain k i (r .number)) (sym (plain-kind without i r (w .0)) ∙ eqb-true _ _ q)
     go false q (inr w) = plain-is without i r (w .0) ∙ ap (plain without i) (w .1)
 
--- a record without a number has none
-maybe-zero : (without given i : ℕ) (r : Record) → block-fits (Maybe without given) i r ≡ true → eqb (r .kind) given ≡ false → r .number ≡ 0
-maybe-zero without given i r e q = ⊎-elim (λ p. absurd (eqb-false _ _ q (plain-kind given i r p))) (λ w. w .1) (maybe-either without given i r e)
-
 -- ---- a block checked
 -- station i's record fits
 abbrev pub fits-at : List ℕ → ℕ → Shape → ℕ → Bool
-fits-at bs start shape i = block-fits shape i (recordAt bs (start + i))
+fits-at bs start shape i = block-fits shape i (record-at bs (start + i))
 
 module _ (bs : List ℕ) (start n : ℕ) (shape : Shape) where
   abbrev found : Option ℕ
   found = first n (λ i. not (fits-at bs start shape i))
 
   -- accepted exactly if every record fits
-  pub check-block-accepted : (check-block bs start n shape ≡ Accepted) ↔ ((i : ℕ) → i < n → fits-at bs start shape i ≡ true)
+  pub check-block-accepted : (check-block bs start n shape ≡ Accepted) ↔ ((i : ℕ) → i < n → fits-at bs start shape i
+      ≡ true)
   unfolding check-block
   check-block-accepted = (there, back)
     where
       there : check-block bs start n shape ≡ Accepted → (i : ℕ) → i < n → fits-at bs start shape i ≡ true
       there e i l =
-          not-false _ (first-none (λ i. not (fits-at bs start shape i)) n .0 (refuse-at-accepted found (λ i. Malformed (start + i)) (λ i. refl) e) i l)
+          not-false _ (first-none (λ i. not (fits-at bs start shape i)) n .0 (refuse-at-accepted found
+          (λ i. Malformed (start + i)) (λ i. refl) e) i l)
 
       back : ((i : ℕ) → i < n → fits-at bs start shape i ≡ true) → check-block bs start n shape ≡ Accepted
-      back h = accepted-refuse-at found _ (first-none (λ i. not (fits-at bs start shape i)) n .1 (λ i l. ap not (h i l)))
+      back h = accepted-refuse-at found _ (first-none (λ i. not (fits-at bs start shape i)) n .1
+          (λ i l. ap not (h i l)))
 
   -- refused at the first that does not
   pub check-block-refused : is-accepted (check-block bs start n shape) ≡ false
-      → (i : ℕ) × (i < n) × (fits-at bs start shape i ≡ false) × ((j : ℕ) → j < i → fits-at bs start shape j ≡ true) × (check-block bs start n shape ≡ Malformed (start + i))
+      → (i : ℕ) × (i < n) × (fits-at bs start shape i ≡ false) × ((j : ℕ) → j < i → fits-at bs start shape j ≡ true)
+      × (check-block bs start n shape ≡ Malformed (start + i))
   unfolding check-block
   check-block-refused e = go found refl
     where
       go : (o : Option ℕ) → found ≡ o
-          → (i : ℕ) × (i < n) × (fits-at bs start shape i ≡ false) × ((j : ℕ) → j < i → fits-at bs start shape j ≡ true) × (check-block bs start n shape ≡ Malformed (start + i))
+          → (i : ℕ) × (i < n) × (fits-at bs start shape i ≡ false) × ((j : ℕ) → j < i → fits-at bs start shape j ≡ true)
+          × (check-block bs start n shape ≡ Malformed (start + i))
       go none q = absurd (true≢false (sym (ap is-accepted (accepted-refuse-at found _ q)) ∙ e))
       go (some i) q =
           let (l, here, before) = first-some (λ i. not (fits-at bs start shape i)) n i .0 q in
@@ -219,83 +242,51 @@ pub record Ends {ℓ} {A : Type ℓ} (d : A) (n : ℕ) (l : List A) : Type ℓ w
   pub long : length l ≡ stations
   pub above : (i : ℕ) → i < stations → n ≤ i → getD l i d ≡ d
 
--- a number beside a false flag is 0
-abbrev pub Kept : List Bool → List ℕ → Type 0
-Kept flags numbers = (i : ℕ) → i < stations → getD flags i false ≡ false → getD numbers i 0 ≡ 0
-
 module _ (bs : List ℕ) (start n : ℕ) where
-  pub numbers-in-below : (i : ℕ) → i < stations → i < n → getD (numbers-in bs start n) i 0 ≡ recordAt bs (start + i) .number
+  pub numbers-in-below : (i : ℕ) → i < stations → i < n → getD (numbers-in bs start n) i 0
+      ≡ record-at bs (start + i) .number
   unfolding numbers-in
-  numbers-in-below i l h = filled-below stations n (λ i. recordAt bs (start + i) .number) 0 i 0 l h
+  numbers-in-below i l h = filled-below stations n (λ i. record-at bs (start + i) .number) 0 i 0 l h
 
   pub numbers-in-ends : Ends 0 n (numbers-in bs start n)
   unfolding numbers-in
   numbers-in-ends = record { long = length-filled stations n _ 0; above = λ i l h. filled-above stations n _ 0 i 0 l h }
 
-  pub flags-in-below : (kind i : ℕ) → i < stations → i < n → getD (flags-in bs start n kind) i false ≡ eqb (recordAt bs (start + i) .kind) kind
+  pub flags-in-below : (kind i : ℕ) → i < stations → i < n → getD (flags-in bs start n kind) i false
+      ≡ eqb (record-at bs (start + i) .kind) kind
   unfolding flags-in
-  flags-in-below kind i l h = filled-below stations n (λ i. eqb (recordAt bs (start + i) .kind) kind) false i false l h
+  flags-in-below kind i l h = filled-below stations n (λ i. eqb (record-at bs (start + i) .kind) kind) false i false l h
 
   pub flags-in-ends : (kind : ℕ) → Ends false n (flags-in bs start n kind)
   unfolding flags-in
-  flags-in-ends kind = record { long = length-filled stations n _ false; above = λ i l h. filled-above stations n _ false i false l h }
+  flags-in-ends kind = record {
+    long = length-filled stations n _ false;
+    above =
+        λ i l h. filled-above stations n _ false i false l h;
+  }
 
   -- the records are those of two arrays
   abbrev pub Holds : Shape → List Bool → List ℕ → Type 0
-  Holds shape flags numbers = (i : ℕ) → i < n → recordAt bs (start + i) ≡ block-record shape flags numbers i
+  Holds shape flags numbers = (i : ℕ) → i < n → record-at bs (start + i) ≡ block-record shape flags numbers i
 
   -- what is written is accepted
-  pub holds-accepted : (shape : Shape) (flags : List Bool) (numbers : List ℕ) → Holds shape flags numbers → check-block bs start n shape ≡ Accepted
-  holds-accepted shape flags numbers h = check-block-accepted bs start n shape .1 (λ i l. rw (h i l) (block-fits-record-of shape i _ _))
-
-  -- its bytes are those that are written
-  pub holds-written : (shape : Shape) (flags : List Bool) (numbers : List ℕ) → IsBytes bs → 8 * (start + n) ≤ length bs → Holds shape flags numbers
-      → written n (block-record shape flags numbers) ≡ take (8 * n) (drop (8 * start) bs)
-  holds-written shape flags numbers bytes most h =
-      sym (written-same n (recordAt (drop (8 * start) bs)) (block-record shape flags numbers) (λ i l. recordAt-drop start bs i ∙ h i l))
-      ∙ written-take n (bytes-drop (8 * start) bytes) (rw length-drop (omega arith))
+  pub holds-accepted : (shape : Shape) (flags : List Bool) (numbers : List ℕ) → Holds shape flags numbers
+      → check-block bs start n shape ≡ Accepted
+  holds-accepted shape flags numbers h = check-block-accepted bs start n shape .1
+      (λ i l. rw (h i l) (block-fits-record-of shape i _ _))
 
   -- arrays that were written are read again
-  pub numbers-again : (kind : ℕ) (flags : List Bool) (numbers : List ℕ) → Ends 0 n numbers → Holds (Number kind) flags numbers → numbers-in bs start n ≡ numbers
+  pub numbers-again : (kind : ℕ) (flags : List Bool) (numbers : List ℕ) → Ends 0 n numbers
+      → Holds (Number kind) flags numbers → numbers-in bs start n ≡ numbers
   unfolding numbers-in record-of plain
   numbers-again kind flags numbers ends h =
-      sym (filled-of 0 stations n _ 0 numbers (ends .long) (λ i l b. sym (ap (λ (r : Record). r .number) (h i b))) (ends .above))
-
-  pub maybe-flags-again : (without given : ℕ) (flags : List Bool) (numbers : List ℕ) → without ≢ given → Ends false n flags
-      → Holds (Maybe without given) flags numbers → flags-in bs start n given ≡ flags
-  unfolding flags-in
-  maybe-flags-again without given flags numbers other ends h =
-      sym
-      (filled-of false stations n _ false flags (ends .long) (λ i l b. rw (h i b) (sym (maybe-flag without given i _ _ other))) (ends .above))
-
-  pub maybe-numbers-again : (without given : ℕ) (flags : List Bool) (numbers : List ℕ) → Ends 0 n numbers → Kept flags numbers
-      → Holds (Maybe without given) flags numbers → numbers-in bs start n ≡ numbers
-  unfolding numbers-in
-  maybe-numbers-again without given flags numbers ends kept h =
-      sym
-      (filled-of 0 stations n _ 0 numbers (ends .long) (λ i l b. rw (h i b) (sym (maybe-number without given i _ _ (kept i l)))) (ends .above))
+      sym (filled-of 0 stations n _ 0 numbers (ends .long) (λ i l b. sym (ap (λ (r : Record). r .number) (h i b)))
+      (ends .above))
 
   -- a block that was accepted is the one that is written of what is read from it
   pub numbers-hold : (kind : ℕ) (flags : List Bool) → n ≤ stations → check-block bs start n (Number kind) ≡ Accepted
       → Holds (Number kind) flags (numbers-in bs start n)
   numbers-hold kind flags most e i l =
       rw (numbers-in-below i (omega arith) l)
-      (number-record kind i (getD flags i false) (recordAt bs (start + i)) (check-block-accepted bs start n (Number kind) .0 e i l))
-
-  pub maybe-hold : (without given : ℕ) → n ≤ stations → check-block bs start n (Maybe without given) ≡ Accepted
-      → Holds (Maybe without given) (flags-in bs start n given) (numbers-in bs start n)
-  maybe-hold without given most e i l =
-      rw (numbers-in-below i (omega arith) l, flags-in-below given i (omega arith) l)
-      (maybe-record without given i (recordAt bs (start + i)) (check-block-accepted bs start n (Maybe without given) .0 e i l))
-
-  pub maybe-kept : (without given : ℕ) → check-block bs start n (Maybe without given) ≡ Accepted
-      → Kept (flags-in bs start n given) (numbers-in bs start n)
-  maybe-kept without given e i l f = go (ltb i n) refl
-    where
-      go : (b : Bool) → ltb i n ≡ b → getD (numbers-in bs start n) i 0 ≡ 0
-      go true q =
-          let below : i < n = ltb-true _ _ q in
-          numbers-in-below i l below
-          ∙ maybe-zero without given i (recordAt bs (start + i)) (check-block-accepted bs start n (Maybe without given) .0 e i below)
-          (sym (flags-in-below given i l below) ∙ f)
-      go false q = numbers-in-ends .above i l (ltb-false _ _ q)
+      (number-record kind i (getD flags i false) (record-at bs (start + i)) (check-block-accepted bs start n
+      (Number kind) .0 e i l))

@@ -1,18 +1,20 @@
--- A list of bytes stays one when it is joined or cut: each element of the result is an element of a part, or 0 past the end.
+-- A list of bytes stays one when it is joined or cut: each element of the result is an element of a part, or 0 past the
+-- end.
 use mathlib.Core.List.{List, [], _∷_, _++_}
 use Prim.Native.Nat.{ℕ, zero, suc, _+_, _<_}
 use native.Mathlib.Omega.{arith}
 use lib.ListN.{getD, take, drop}
 use lib.Seq.{getD-drop}
+use Rattle.run.specs.Number.{base}
 use Rattle.run.specs.Bytes.{IsBytes}
 
 pub bytes-nil : IsBytes []
 bytes-nil = record { below = λ i. omega arith }
 
-pub bytes-cons : {b : ℕ} {bs : List ℕ} → b < 256 → IsBytes bs → IsBytes (b ∷ bs)
+pub bytes-cons : {b : ℕ} {bs : List ℕ} → b < base → IsBytes bs → IsBytes (b ∷ bs)
 bytes-cons {b} {bs} h hs = record { below = go }
   where
-    go : (i : ℕ) → getD (b ∷ bs) i 0 < 256
+    go : (i : ℕ) → getD (b ∷ bs) i 0 < base
     go zero = h
     go (suc i) = hs .below i
 

@@ -1,4 +1,5 @@
--- What the lowest place at which a test is true is: by induction on the number of places, the last of which is asked only if none before it was found.
+-- What the lowest place at which a test is true is: by induction on the number of places, the last of which is asked
+-- only if none before it was found.
 use mathlib.Core.Path.{_≡_, refl, sym}
 use mathlib.Core.Logic.{_↔_, _⊎_, inl, inr, ⊎-elim}
 use mathlib.Core.Bool.{Bool, true, false}
@@ -19,7 +20,8 @@ or-here-none none true n e = absurd (nowhere e)
 or-here-none none false n e = (refl, refl)
 or-here-none (some i) b n e = absurd (nowhere e)
 
-or-here-some : (o : Option ℕ) (b : Bool) (n i : ℕ) → or-here o b n ≡ some i → (o ≡ some i) ⊎ ((o ≡ none) × (b ≡ true) × (n ≡ i))
+or-here-some : (o : Option ℕ) (b : Bool) (n i : ℕ) → or-here o b n ≡ some i → (o ≡ some i) ⊎ ((o ≡ none) × (b ≡ true)
+    × (n ≡ i))
 or-here-some none true n i e = inr (refl, refl, cc)
 or-here-some none false n i e = absurd (nowhere (sym e))
 or-here-some (some j) b n i e = inl e

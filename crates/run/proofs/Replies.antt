@@ -62,7 +62,8 @@ pub accepted-or-refuse : (b : Bool) (r : Reply) → b ≡ true → or-refuse b r
 accepted-or-refuse b r e = rw e
 
 -- a search for a place at fault
-pub refuse-at-accepted : (o : Option ℕ) (r : ℕ → Reply) → ((i : ℕ) → is-accepted (r i) ≡ false) → refuse-at o r ≡ Accepted → o ≡ none
+pub refuse-at-accepted : (o : Option ℕ) (r : ℕ → Reply) → ((i : ℕ) → is-accepted (r i) ≡ false) → refuse-at o r
+    ≡ Accepted → o ≡ none
 refuse-at-accepted none r f e = refl
 refuse-at-accepted (some i) r f e = absurd (refused-isn't (r i) (f i) e)
 

@@ -1,26 +1,39 @@
--- A run is sound exactly when it keeps each clause of the rules: each test of the one is a clause of the other, taken from test to numbers and back.
--- Also the steps of a loop that asks a test of each place.
+-- A run is sound exactly when it keeps each clause of the rules: each test of the one is a clause of the other, taken
+-- from test to numbers and back. Also the steps of a loop that asks a test of each place.
 use mathlib.Core.Path.{_≡_, refl, ap, sym, _∙_}
-use mathlib.Core.Logic.{_↔_, inl, inr, ⊎-elim}
+use mathlib.Core.Logic.{_↔_, _⊎_, inl, inr, ⊎-elim}
 use mathlib.Core.Bool.{Bool, true, false, not, _||_, cond, false≢true}
 use Prim.Native.Nat.{ℕ, _+_, _%_, _<_, _≤_}
 use native.Mathlib.Numerals.{add-one}
+use native.Mathlib.Decide.{ℕ-discrete}
 use native.Mathlib.Omega.{arith}
-use borrow.Author.Tests.{eqb-true, eqb-false, leb-true, ltb-true, ltb-false, eq-eqb, ne-eqb, le-leb, lt-ltb, le-ltb, not-true, not-false}
+use borrow.Author.Tests.{
+  eqb-true,
+  leb-true,
+  ltb-true,
+  ltb-false,
+  eq-eqb,
+  ne-eqb,
+  le-leb,
+  lt-ltb,
+  le-ltb,
+  not-true,
+  not-false,
+}
 use lib.Dec.{ltb}
-use Rattle.paper.specs.Setup as paper
+use Rattle.paper.specs.Setup as setup
 use Rattle.paper.specs.Stations.{every}
 use Rattle.paper.proofs.Counting.{both, every-at, every-is}
-use Rattle.paper.proofs.Thresholds.{meets-A, meets-U}
-use Rattle.run.specs.declared.Setup.{Setup}
+use Rattle.limits.specs.declared.Setup.{Setup}
 use Rattle.run.specs.declared.Run.{Run}
 use Rattle.run.specs.declared.Station.{Station}
-use Rattle.run.specs.Keeps.{SetupKeeps, StationKeeps, Empty, Keeps}
+use Rattle.run.specs.Keeps.{SetupKeeps, StationKeeps, Keeps}
+use Rattle.limits.specs.Setup.{byte-A, byte-U, is-U, setup-of}
+use Rattle.run.proofs.Heads.{in-range-iff}
 use Rattle.run.specs.Run.{
   stations,
+  nothing,
   idle,
-  is-U,
-  setup-of,
   in-range,
   default-fits,
   may-vote,
@@ -72,77 +85,36 @@ then-cond false b c h g = g refl
 
 -- ---- the setup
 module _ (s : Setup) where
-  range-keeps : in-range s ≡ true → (1 ≤ s .algorithm) × (s .algorithm ≤ 2) × (1 ≤ s .n) × (s .n ≤ 32)
-  unfolding in-range
-  range-keeps e =
-      let (abc, d) = both _ _ e in
-      let (ab, c) = both _ _ abc in
-      let (a, b) = both _ _ ab in
-      (leb-true _ _ a, leb-true _ _ b, leb-true _ _ c, leb-true _ _ d)
-
-  keeps-range : 1 ≤ s .algorithm → s .algorithm ≤ 2 → 1 ≤ s .n → s .n ≤ 32 → in-range s ≡ true
-  unfolding in-range
-  keeps-range a b c d = rw (le-leb _ _ a, le-leb _ _ b, le-leb _ _ c, le-leb _ _ d)
-
   -- under U and under A
-  is-two : is-U s ≡ true → s .algorithm ≡ 2
-  is-two e = eqb-true (s .algorithm) 2 e
+  is-two : is-U s ≡ true → s .algorithm ≡ byte-U
+  is-two e = eqb-true (s .algorithm) byte-U e
 
-  two-is : s .algorithm ≡ 2 → is-U s ≡ true
-  two-is e = eq-eqb (s .algorithm) 2 e
+  two-is : s .algorithm ≡ byte-U → is-U s ≡ true
+  two-is e = eq-eqb (s .algorithm) byte-U e
 
-  one-is : s .algorithm ≡ 1 → is-U s ≡ false
-  one-is e = ne-eqb (s .algorithm) 2 (λ q. omega arith)
+  one-is : s .algorithm ≡ byte-A → is-U s ≡ false
+  one-is e = ne-eqb (s .algorithm) byte-U (λ q. omega arith)
 
-  acceptable-keeps : in-range s ≡ true → paper.acceptable (setup-of s) ≡ true → SetupKeeps s
-  unfolding setup-of paper.acceptable
-  acceptable-keeps r e = go (is-U s) refl (range-keeps r)
+  either-is : byte-A ≤ s .algorithm → s .algorithm ≤ byte-U → (s .algorithm ≡ byte-A) ⊎ (s .algorithm ≡ byte-U)
+  either-is low high = go (ℕ-discrete (s .algorithm) byte-A)
     where
-      go : (b : Bool) → is-U s ≡ b → (1 ≤ s .algorithm) × (s .algorithm ≤ 2) × (1 ≤ s .n) × (s .n ≤ 32) → SetupKeeps s
-      go true q h =
-          let m = meets-U (setup-of s) (rw q at e) in
-          record {
-            algorithm = inr (is-two q);
-            n-from = omega arith;
-            n-to = omega arith;
-            E-below = omega arith;
-            T-below = omega arith;
-            T-under-A = λ o. absurd (false≢true (sym (one-is o) ∙ q));
-            T-under-U = λ _. omega arith;
-            E-under-U = λ _. omega arith;
-          }
-      go false q h =
-          let m = meets-A (setup-of s) (rw q at e) in
-          record {
-            algorithm = inl (omega (arith, eqb-false (s .algorithm) 2 q));
-            n-from = omega arith;
-            n-to = omega arith;
-            E-below = omega arith;
-            T-below = omega arith;
-            T-under-A = λ _. omega arith;
-            T-under-U = λ t. absurd (false≢true (sym q ∙ two-is t));
-            E-under-U = λ t. absurd (false≢true (sym q ∙ two-is t));
-          }
+      go : Dec (s .algorithm ≡ byte-A) → (s .algorithm ≡ byte-A) ⊎ (s .algorithm ≡ byte-U)
+      go (yes e) = inl e
+      go (no n) = inr (omega arith)
 
-  keeps-acceptable : SetupKeeps s → paper.acceptable (setup-of s) ≡ true
-  unfolding setup-of paper.acceptable paper.acceptable-for paper.E-below-n paper.T-below-n paper.T-enough paper.E-enough
-  keeps-acceptable k = ⊎-elim under-A under-U (k .algorithm)
-    where
-      under-A : s .algorithm ≡ 1 → paper.acceptable (setup-of s) ≡ true
-      under-A o = rw (one-is o, lt-ltb _ _ (k .E-below), lt-ltb _ _ (k .T-below), le-leb _ _ (k .T-under-A o))
-
-      under-U : s .algorithm ≡ 2 → paper.acceptable (setup-of s) ≡ true
-      under-U t =
-          rw (two-is t, lt-ltb _ _ (k .E-below), lt-ltb _ _ (k .T-below), le-leb _ _ (k .T-under-U t), le-leb _ _ (k .E-under-U t))
+  setup-keeps : in-range s ≡ true → setup.acceptable (setup-of s) ≡ true → SetupKeeps s
+  setup-keeps r e =
+      let (low, high, from, to) = in-range-iff s .0 r in
+      record { algorithm = either-is low high; n-from = from; n-to = to; inequalities = e }
 
   keeps-in-range : SetupKeeps s → in-range s ≡ true
   keeps-in-range k =
-      ⊎-elim (λ o. keeps-range (omega arith) (omega arith) (k .n-from) (k .n-to)) (λ t. keeps-range (omega arith) (omega arith) (k .n-from) (k .n-to))
-      (k .algorithm)
+      in-range-iff s .1
+      (⊎-elim (λ o. omega (arith, k .n-from, k .n-to)) (λ t. omega (arith, k .n-from, k .n-to)) (k .algorithm))
 
   -- a setup passes its tests exactly when it keeps their clauses
-  pub setup-iff : ((in-range s ≡ true) × (paper.acceptable (setup-of s) ≡ true)) ↔ SetupKeeps s
-  setup-iff = (λ h. acceptable-keeps (h .0) (h .1), λ k. (keeps-in-range k, keeps-acceptable k))
+  pub setup-iff : ((in-range s ≡ true) × (setup.acceptable (setup-of s) ≡ true)) ↔ SetupKeeps s
+  setup-iff = (λ h. setup-keeps (h .0) (h .1), λ k. (keeps-in-range k, k .inequalities))
 
 -- ---- what a run holds of one station
 pub keeps-beside : {there : Bool} {number : ℕ} → (there ≡ false → number ≡ 0) → kept-fits there number ≡ true
@@ -150,14 +122,14 @@ unfolding kept-fits
 keeps-beside {there} {number} h = then-or there _ (λ n. eq-eqb number 0 (h n))
 
 module _ (s : Setup) (clock : ℕ) where
-  may-decide-keeps : (r : ℕ) → may-decide s clock r ≡ true → (1 ≤ r) × (r ≤ clock) × (s .algorithm ≡ 2 → r % 2 ≡ 0)
+  may-decide-keeps : (r : ℕ) → may-decide s clock r ≡ true → (1 ≤ r) × (r ≤ clock) × (s .algorithm ≡ byte-U → r % 2 ≡ 0)
   unfolding may-decide
   may-decide-keeps r e =
       let (bounds, even) = both _ _ e in
       let (from, to) = both _ _ bounds in
       (leb-true _ _ from, leb-true _ _ to, λ t. eqb-true _ _ (or-then (not (is-U s)) _ even (ap not (two-is s t))))
 
-  keeps-may-decide : (r : ℕ) → 1 ≤ r → r ≤ clock → (s .algorithm ≡ 2 → r % 2 ≡ 0) → may-decide s clock r ≡ true
+  keeps-may-decide : (r : ℕ) → 1 ≤ r → r ≤ clock → (s .algorithm ≡ byte-U → r % 2 ≡ 0) → may-decide s clock r ≡ true
   unfolding may-decide
   keeps-may-decide r from to even =
       rw (le-leb _ _ from, le-leb _ _ to) (then-or (not (is-U s)) _ (λ n. eq-eqb _ _ (even (is-two s (not-false _ n)))))
@@ -171,7 +143,8 @@ module _ (s : Setup) (clock : ℕ) where
         let (vote, decision) = both _ _ ab in
         let (decided, undecided) = cond-then (p .decided) _ _ decision in
         record {
-          vote = λ v. let (u, odd) = both _ _ (or-then (not (p .voted)) _ vote (ap not v)) in (is-two s u, eqb-true _ _ odd);
+          vote = λ v. let (u, odd) = both _ _ (or-then (not (p .voted)) _ vote (ap not v)) in
+              (is-two s u, eqb-true _ _ odd);
           round-from = λ d. may-decide-keeps (p .round) (decided d) .0;
           round-to = λ d. may-decide-keeps (p .round) (decided d) .1;
           round-even = λ d. may-decide-keeps (p .round) (decided d) .2;
@@ -182,7 +155,8 @@ module _ (s : Setup) (clock : ℕ) where
 
     pub keeps-vote : StationKeeps s clock p → vote-fits s clock (p .voted) ≡ true
     unfolding vote-fits may-vote
-    keeps-vote k = then-or (not (p .voted)) _ (λ n. let (u, odd) = k .vote (not-false _ n) in rw (two-is s u, eq-eqb _ _ odd))
+    keeps-vote k = then-or (not (p .voted)) _ (λ n. let (u, odd) = k .vote (not-false _ n) in
+        rw (two-is s u, eq-eqb _ _ odd))
 
     pub keeps-decision : StationKeeps s clock p → decision-fits s clock (p .decided) (p .round) ≡ true
     unfolding decision-fits
@@ -193,9 +167,15 @@ module _ (s : Setup) (clock : ℕ) where
 
     keeps-station : StationKeeps s clock p → station-fits s clock p ≡ true
     unfolding station-fits
-    keeps-station k = rw (keeps-vote k, keeps-decision k, keeps-beside (k .beside-no-vote), keeps-beside (k .beside-undecided))
+    keeps-station k = rw (
+      keeps-vote k,
+      keeps-decision k,
+      keeps-beside (k .beside-no-vote),
+      keeps-beside
+          (k .beside-undecided),
+    )
 
-clear-keeps : (p : Station) → clear p ≡ true → Empty p
+clear-keeps : (p : Station) → clear p ≡ true → p ≡ nothing
 unfolding clear
 clear-keeps p e =
     let (abcde, round) = both _ _ e in
@@ -203,18 +183,29 @@ clear-keeps p e =
     let (abc, decided) = both _ _ abcd in
     let (ab, vote) = both _ _ abc in
     let (estimate, voted) = both _ _ ab in
-    record {
-      estimate = eqb-true _ _ estimate;
-      voted = not-true _ voted;
-      vote = eqb-true _ _ vote;
-      decided = not-true _ decided;
-      decision = eqb-true _ _ decision;
-      round = eqb-true _ _ round;
-    }
+    let same : _≡_ {A = Station}
+    (record {
+      estimate = p .estimate;
+      voted = p .voted;
+      vote = p .vote;
+      decided = p .decided;
+      decision = p .decision;
+      round = p .round;
+    })
+    nothing
+    = rw (
+      eqb-true (p .estimate) 0 estimate,
+      not-true (p .voted) voted,
+      eqb-true (p .vote) 0 vote,
+      not-true (p .decided) decided,
+      eqb-true (p .decision) 0 decision,
+      eqb-true (p .round) 0 round,
+    ) in
+    same
 
-keeps-clear : (p : Station) → Empty p → clear p ≡ true
+keeps-clear : (p : Station) → p ≡ nothing → clear p ≡ true
 unfolding clear
-keeps-clear p k = rw (eq-eqb _ _ (k .estimate), k .voted, eq-eqb _ _ (k .vote), k .decided, eq-eqb _ _ (k .decision), eq-eqb _ _ (k .round))
+keeps-clear p e = rw e
 
 -- ---- the whole run
 module _ (run : Run) where
@@ -225,7 +216,7 @@ module _ (run : Run) where
       let (abc, clock) = both _ _ head in
       let (ab, default) = both _ _ abc in
       let (range, inequalities) = both _ _ ab in
-      let setup = acceptable-keeps (run .setup) range inequalities in
+      let setup = setup-keeps (run .setup) range inequalities in
       record {
         setup = setup;
         default = λ o. eqb-true _ _ (or-then (is-U (run .setup)) _ default (one-is (run .setup) o));
@@ -236,17 +227,19 @@ module _ (run : Run) where
             (cond-then (ltb i (run .setup .n)) _ _ (every-at stations _ places i (omega arith)) .0 (lt-ltb _ _ l));
         above =
             λ i h l.
-            clear-keeps (station-at run i) (cond-then (ltb i (run .setup .n)) _ _ (every-at stations _ places i l) .1 (le-ltb _ _ h));
+            clear-keeps (station-at run i) (cond-then (ltb i (run .setup .n)) _ _ (every-at stations _ places i l) .1
+            (le-ltb _ _ h));
       }
 
   keeps-sound : Keeps run → sound run ≡ true
   unfolding sound head-fits default-fits place-fits
   keeps-sound k =
-      rw (keeps-in-range (run .setup) (k .setup), keeps-acceptable (run .setup) (k .setup), default, le-leb _ _ (k .clock))
+      rw (keeps-in-range (run .setup) (k .setup), k .setup .inequalities, default, le-leb _ _ (k .clock))
       (every-is stations _ place)
     where
       default : default-fits (run .setup) (run .default) ≡ true
-      default = then-or (is-U (run .setup)) _ (λ n. eq-eqb _ _ (⊎-elim (k .default) (λ t. absurd (false≢true (sym n ∙ two-is (run .setup) t))) (k .setup .algorithm)))
+      default = then-or (is-U (run .setup)) _ (λ n. eq-eqb _ _ (⊎-elim (k .default) (λ t. absurd (false≢true (sym n
+          ∙ two-is (run .setup) t))) (k .setup .algorithm)))
 
       place : (i : ℕ) → i < stations → place-fits-in run i ≡ true
       place i l =
@@ -257,7 +250,7 @@ module _ (run : Run) where
   pub sound-iff : (sound run ≡ true) ↔ Keeps run
   sound-iff = (sound-keeps, keeps-sound)
 
--- "The idle run .. breaks them"
+-- the idle run is not good
 pub idle-breaks : sound idle ≡ false
 unfolding sound head-fits in-range idle
 idle-breaks = refl

@@ -8,7 +8,7 @@ use borrow.Author.Tests.{ltb-false, le-ltb, eq-eqb, eqb-true}
 use lib.Dec.{eqb, ltb}
 use lib.ListN.{getD}
 use Rattle.paper.proofs.Counting.{every-at, every-is}
-use Rattle.run.specs.declared.Setup.{Setup}
+use Rattle.limits.specs.declared.Setup.{Setup}
 use Rattle.run.specs.Run.{stations}
 use Rattle.run.specs.Opening.{starts-end}
 
@@ -21,7 +21,8 @@ module _ (s : Setup) (starts : List ℕ) where
   unfolding starts-end
   at-ends h = every-is stations _ (λ i l. go i l (ltb i (s .n)) refl)
     where
-      go : (i : ℕ) → i < stations → (b : Bool) → ltb i (s .n) ≡ b → cond (ltb i (s .n)) true (eqb (getD starts i 0) 0) ≡ true
+      go : (i : ℕ) → i < stations → (b : Bool) → ltb i (s .n) ≡ b → cond (ltb i (s .n)) true (eqb (getD starts i 0) 0)
+          ≡ true
       go i l true q = rw q
       go i l false q = rw q (eq-eqb (getD starts i 0) 0 (h i l (ltb-false i (s .n) q)))
 

@@ -1,5 +1,4 @@
--- An array filled from its start: document 01, "Run and image": "Entries from n up are zero, "?" or undecided."; and
--- "Tape": "a matrix of 1,024 cells that starts as all lost".
+-- An array filled from its start (rules 4.7 and 5.9).
 use Prim.Native.Nat.{ℕ, zero, suc}
 use mathlib.Core.Bool.{cond}
 use mathlib.Core.List.{List, [], _∷_}

@@ -1,4 +1,4 @@
--- The lowest place at which a test is true: document 01, "What the judge replies": "first record at fault", "lowest p".
+-- The lowest place at which a test is true: rules 2.7 and 6.5.
 use Prim.Native.Nat.{ℕ, zero, suc}
 use mathlib.Core.Bool.{Bool, cond}
 use mathlib.Core.Option.{Option, none, some}

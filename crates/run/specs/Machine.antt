@@ -1,4 +1,4 @@
--- A run as the code holds it: document 01, "Numbers" ("any 32-bit unsigned number") and "Run and image" ("in fixed arrays"). What is not said here,
+-- A run as the code holds it (rules 1.3 and 1.8). What is not said here,
 -- that the setup's parts are bytes and that the clock and the rounds fit, follows from the rules of a run.
 use mathlib.Core.Path.{_≡_}
 use mathlib.Core.List.{List}

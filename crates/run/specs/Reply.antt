@@ -1,11 +1,23 @@
--- The judge's replies: document 01, "What the judge replies". Each case of the enum has its number and its place, and checks are made
+-- The judge's replies (rules 11). Each case of the enum has its number and its place, and checks are made
 -- in a stated order: the first that refuses gives the reply.
 use Prim.Native.Nat.{ℕ}
 use mathlib.Core.Bool.{Bool, true, false, cond}
 use mathlib.Core.Option.{Option, none, some}
 use lib.Dec.{eqb}
 use Rattle.run.specs.declared.Reply.{Reply}
-use Rattle.run.specs.declared.Reply.the-variants.{Accepted, Length, Malformed, Range, Inequality, Query, Altered, Unsafe, Full, Buffer, Rules}
+use Rattle.run.specs.declared.Reply.the-variants.{
+  Accepted,
+  Length,
+  Malformed,
+  Range,
+  Inequality,
+  Query,
+  Altered,
+  Unsafe,
+  Full,
+  Buffer,
+  Rules,
+}
 
 abbrev pub number-of : Reply → ℕ
 number-of Accepted = 0

@@ -1,9 +1,7 @@
 // Blocks of records, one for each station in station order: an opening has one (the starts), an image four.
 ghost use mathlib.Core.Path.{_≡_};
-ghost use mathlib.Core.Bool.{false};
 ghost use Prim.Native.Nat.{min};
-ghost use lib.ListN.{getD};
-ghost use Rattle.run.specs.Block.{plain, is-plain, record-of, block-fits, check-block, numbers-in, flags-in, block-record, put-block};
+ghost use Rattle.run.specs.Block.{is-plain, block-fits, check-block, numbers-in, flags-in};
 ghost use Rattle.run.specs.Run.{stations};
 use super::Reply;
 use super::Run;
@@ -14,19 +12,6 @@ use super::record::Record;
 pub enum Shape {
     Number(u8),
     Maybe(u8, u8),
-}
-
-// The record of this kind with a byte 1 and a number.
-pub fn plain(kind: u8, first: u8, number: u32) -> Record
-    ensures { λ r. ⌜ r ≡ plain kind first number ⌝ }
-{
-    Record {
-        kind,
-        first,
-        second: 0,
-        third: 0,
-        number,
-    }
 }
 
 // Whether the record is of this kind with this byte 1, and bytes 2 and 3 are zero.
@@ -62,16 +47,18 @@ pub fn check_block(bytes: &[u8], start: u16, n: u8, shape: Shape) -> Reply
     Reply::Accepted
 }
 
+// The lower of the two.
+pub fn least(a: usize, b: usize) -> usize
+    ensures { λ r. ⌜ r ≡ min a b ⌝ }
+{
+    if a < b { a } else { b }
+}
+
 // How many of the n stations an array has a place for.
-fn places(n: u8) -> usize
+pub fn places(n: u8) -> usize
     ensures { λ r. ⌜ r ≡ min n stations ⌝ }
 {
-    let all = n as usize;
-    if all < Run::STATIONS {
-        all
-    } else {
-        Run::STATIONS
-    }
+    least(n as usize, Run::STATIONS)
 }
 
 // The numbers of the n records from start on, with 0 from n up.
@@ -102,55 +89,4 @@ pub fn flags_in(bytes: &[u8], start: u16, n: u8, kind: u8) -> [bool; Run::STATIO
         i += 1;
     }
     flags
-}
-
-// What an array holds at a place, and past its end the value that stands for nothing.
-fn flag_at(flags: [bool; Run::STATIONS], i: usize) -> bool
-    ensures { λ r. ⌜ r ≡ getD flags i false ⌝ }
-{
-    if i < Run::STATIONS { flags[i] } else { false }
-}
-
-fn number_at(numbers: [u32; Run::STATIONS], i: usize) -> u32
-    ensures { λ r. ⌜ r ≡ getD numbers i 0 ⌝ }
-{
-    if i < Run::STATIONS { numbers[i] } else { 0 }
-}
-
-// Station i's record in a block of this shape, with its number if it is there.
-fn record_of(shape: Shape, i: u8, there: bool, number: u32) -> Record
-    ensures { λ r. ⌜ r ≡ record-of shape i there number ⌝ }
-{
-    match shape {
-        Shape::Number(kind) => plain(kind, i, number),
-        Shape::Maybe(without, given) => {
-            if there {
-                plain(given, i, number)
-            } else {
-                plain(without, i, 0)
-            }
-        }
-    }
-}
-
-// Writes n records from start on, of what the arrays hold.
-pub fn put_block(
-    bytes: &mut [u8],
-    start: u16,
-    n: u8,
-    shape: Shape,
-    flags: [bool; Run::STATIONS],
-    numbers: [u32; Run::STATIONS],
-)
-    ensures { λ _. ⌜ now (bytes .exit) ≡ put-block (now (bytes .entry)) start n (block-record shape flags numbers) ⌝ }
-{
-    let mut i: u8 = 0;
-    while i < n {
-        let at = i as usize;
-        let there = flag_at(flags, at);
-        let number = number_at(numbers, at);
-        let r = record_of(shape, i, there, number);
-        record::put_record(bytes, start as usize + at, r);
-        i += 1;
-    }
 }

@@ -1,21 +1,16 @@
-// The run: its type and constants, and openings read and written (document 01, "Run and image", "Tape").
+// The run: its type and constants, openings read, and a tape in its two parts (rules 1 to 3, 5, 11 and 13).
+pub mod kinds; // the kinds of records
 pub mod record; // records of 8 bytes
 pub mod block; // a record for each station
-pub mod setups; // setups, and the two records that openings and images begin with
-pub mod opening; // openings, read and written
+pub mod head; // the two records that openings and images begin with
+pub mod opening; // openings read
+pub mod tape; // a tape's two parts
 
 ghost use mathlib.Core.Path.{_≡_};
 ghost use Rattle.run.specs.Reply.{number-of, place-of};
 ghost use Rattle.run.specs.Run.{idle};
-
-// The parameters of a run. The algorithm stays the byte of the tape: 1 is A, 2 is U, 0 in the idle run, anything in a run handed in.
-pub struct Setup {
-    pub algorithm: u8,
-    pub n: u8,
-    pub t: u8,
-    pub e: u8,
-    pub alpha: u8,
-}
+ghost use Rattle.run.specs.Opening.{unopened};
+use limits::Setup;
 
 // A run: its stations' estimates, votes and decisions beside the setup, the default and the clock (rounds accepted).
 pub struct Run {
@@ -128,4 +123,16 @@ impl Reply {
 pub struct Opened {
     pub reply: Reply,
     pub run: Run,
+}
+
+impl Opened {
+    // The idle run, with why.
+    pub fn none(reply: Reply) -> Opened
+        ensures { λ r. ⌜ r ≡ unopened reply ⌝ }
+    {
+        Opened {
+            reply,
+            run: Run::idle(),
+        }
+    }
 }

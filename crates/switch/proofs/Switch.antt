@@ -1,12 +1,25 @@
--- What the calls' promises give a host. They name the answer and the bytes, so there is one of each. The number and the place are read back from an
--- answer, since no number reaches 2^32. An image that a call wrote is a sound run's, so the next call loads that very run.
+-- What the calls' promises give a host. They name the answer and the bytes, so there is one of each. The number and the
+-- place are read back from an answer, since no number reaches 2^32. An image that a call wrote is a sound run's, so the
+-- next call loads that very run.
 use mathlib.Core.Path.{_≡_, ap, sym, subst, _∙_}
 use mathlib.Core.List.{List}
 use Prim.Native.Nat.{ℕ, _/_, _%_, _^_, _<_}
 use native.Mathlib.Omega.{arith}
 use Rattle.run.specs.declared.Run.{Run}
 use Rattle.run.specs.declared.Reply.{Reply}
-use Rattle.run.specs.declared.Reply.the-variants.{Accepted, Length, Malformed, Range, Inequality, Query, Altered, Unsafe, Full, Buffer, Rules}
+use Rattle.run.specs.declared.Reply.the-variants.{
+  Accepted,
+  Length,
+  Malformed,
+  Range,
+  Inequality,
+  Query,
+  Altered,
+  Unsafe,
+  Full,
+  Buffer,
+  Rules,
+}
 use Rattle.run.specs.Bytes.{IsBytes}
 use Rattle.run.specs.Reply.{number-of, place-of, is-accepted}
 use Rattle.run.specs.Opening.{check-opening}

@@ -1,2 +1,2 @@
--- What the contracts of this crate cite.
-pub mod Switch
+-- What a reader must believe.
+pub mod Switch  -- the two entries

@@ -1,6 +1,4 @@
--- The switch's calls: document 01, "Run and image": "The switch calls with plain numbers and byte buffers: it lends an image and one round, checked in
--- that order, and the image is rewritten if the round is accepted. .. To open, it lends an opening and a buffer for the image: the opening's
--- refusals, then 9."
+-- The switch's calls (rules 12.10, 12.11 and 15).
 use Prim.Native.Nat.{ℕ, _+_, _*_, _^_}
 use mathlib.Core.Bool.{cond}
 use mathlib.Core.List.{List}
@@ -14,7 +12,7 @@ use Rattle.run.specs.Opening.{check-opening, read-opening}
 use Rattle.image.specs.Image.{image-length, image, check-image, loaded}
 use Rattle.judge.specs.Step.{check-step, run-after}
 
--- a reply as one plain number: its number in the low 32 bits, its place in the high 32
+-- a reply as one plain number: its number in the low 32 bits, its place in the high 32 (rule 15.2)
 abbrev pub answer-of : Reply → ℕ
 answer-of r = number-of r + 2 ^ 32 * place-of r
 
@@ -25,23 +23,23 @@ opened-run opening = read-opening opening .run
 abbrev pub loaded-run : List ℕ → Run
 loaded-run bytes = loaded bytes .run
 
--- "the opening's refusals, then 9"
+-- rule 12.10
 unfoldable pub open-reply : List ℕ → List ℕ → Reply
 unfolding check-opening read-opening
 open-reply opening buffer =
     check-opening opening then or-refuse (eqb (length buffer) (image-length (opened-run opening .setup .n))) Buffer
 
--- what the buffer then holds: the run's image; "A refusal writes no byte"
+-- what the buffer then holds: the image of the opened run, or what it held (rule 15.3)
 unfoldable pub open-image : List ℕ → List ℕ → List ℕ
 unfolding open-reply image
 open-image opening buffer = cond (is-accepted (open-reply opening buffer)) (image (opened-run opening)) buffer
 
--- "an image and one round, checked in that order"
+-- rule 12.11
 unfoldable pub step-reply : List ℕ → List ℕ → Reply
 unfolding check-image loaded check-step
 step-reply bytes round = check-image bytes then check-step (loaded-run bytes) round
 
--- "and the image is rewritten if the round is accepted"
+-- and the image after it
 unfoldable pub step-image : List ℕ → List ℕ → List ℕ
 unfolding step-reply image run-after
 step-image bytes round = cond (is-accepted (step-reply bytes round)) (image (run-after (loaded-run bytes) round)) bytes

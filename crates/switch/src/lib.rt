@@ -1,4 +1,5 @@
-// The switch's entries, for a host in C or Rust: a run opened into a lent image, and a lent image stepped by a lent round (document 01, "Run and image").
+// The switch's entries, for a host in C or Rust: a run opened into a lent image, and a lent image stepped by a lent
+// round (rules 15).
 ghost use mathlib.Core.Path.{_≡_};
 ghost use Rattle.switch.specs.Switch.{answer-of, open-reply, open-image, step-reply, step-image};
 use image::image_length;
@@ -37,7 +38,8 @@ pub extern "C" fn judge_open(opening: &[u8], image: &mut [u8]) -> u64
     answer(reply)
 }
 
-// Steps an image by one round: the image's refusals, then the round's. The image is rewritten if the round is accepted; a refusal writes no byte.
+// Steps an image by one round: the image's refusals, then the round's. An accepted round has it rewritten;
+// a refusal writes no byte.
 #[no_mangle]
 pub extern "C" fn judge_step(image: &mut [u8], round: &[u8]) -> u64
     ensures reply { λ r. ⌜ r ≡ answer-of (step-reply (now (image .entry)) (now (round .entry))) ⌝ }

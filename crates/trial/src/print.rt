@@ -1,9 +1,9 @@
 // What a line says, printed on standard output.
 use libc::STDOUT_FILENO;
+use limits::Setup;
 use run::Opened;
 use run::Reply;
 use run::Run;
-use run::Setup;
 
 const A: u8 = 1; // the algorithm's byte
 

@@ -3,8 +3,8 @@ ghost use Prim.Native.Nat.{_≤_};
 ghost use lib.ListN.{length};
 use super::print;
 use libc::STDIN_FILENO;
+use limits::Setup;
 use run::Run;
-use run::Setup;
 
 pub fn byte() -> u8 {
     let mut bytes = [0u8; 1];
@@ -70,7 +70,8 @@ pub fn whole() -> Run {
     }
 }
 
-// Puts a payload, a length of two bytes and so many bytes, at the start of the buffer, and answers the length; 0 where the buffer is shorter.
+// Puts a payload, a length of two bytes and so many bytes, at the start of the buffer, and answers the length; 0 where
+// the buffer is shorter.
 pub fn payload(buffer: &mut [u8]) -> usize
     ensures { λ r. ⌜ r ≤ length (now (buffer .exit)) ⌝ }
 {

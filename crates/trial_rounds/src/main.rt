@@ -1,10 +1,10 @@
-// Runs the trials of rounds read, written and surveyed: for each frame of the input, one call, and a line that says what it answered.
+// Runs the trials of rounds read, written and surveyed: for each frame of the input, one call, and a line that says
+// what it answered.
 use hearing::surveys;
 use round::Cell;
 use round::Matrix;
 use round::Slot;
 use round::read;
-use round::write;
 use run::Run;
 use trial::print;
 use trial::take;
@@ -93,7 +93,7 @@ fn matrix() -> Matrix {
 }
 
 fn put_round(run: Run, matrix: Matrix, out: &mut [u8]) {
-    let reply = write::write_round(run, matrix, out);
+    let reply = writing::write_round(run, matrix, out);
     print::written(reply, out);
 }
 

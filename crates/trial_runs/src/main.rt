@@ -1,6 +1,7 @@
-// Runs the trials of openings, images and runs: for each frame of the input, one call, and a line that says what it answered.
+// Runs the trials of openings, images and runs: for each frame of the input, one call, and a line that says what it
+// answered.
+use limits::Setup;
 use run::Run;
-use run::Setup;
 use trial::print;
 use trial::take;
 
@@ -23,7 +24,7 @@ fn open(space: &mut [u8]) {
 }
 
 fn put_opening(setup: Setup, default: u32, starts: [u32; Run::STATIONS], out: &mut [u8]) {
-    let reply = Run::write_opening(setup, default, starts, out);
+    let reply = put::opening::write_opening(setup, default, starts, out);
     print::written(reply, out);
 }
 

@@ -1,4 +1,5 @@
-// Runs the trials of steps and of parts played: for each frame of the input, one call, and a line that says what it answered.
+// Runs the trials of steps and of parts played: for each frame of the input, one call, and a line that says what it
+// answered.
 use run::Run;
 use trial::print;
 use trial::take;

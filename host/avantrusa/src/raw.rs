@@ -33,7 +33,8 @@ fn overlap(first: usize, first_len: usize, second: usize, second_len: usize) -> 
     }
 }
 
-/// What is wrong with two buffers, if anything: null, the first buffer first, then overlap.
+/// What is wrong with two buffers, if anything: null, the first buffer first, then overlap (rules
+/// 15.10 and 15.11).
 pub(crate) fn fault(
     first: *const u8,
     first_len: usize,

@@ -3,7 +3,7 @@
 use std::error::Error;
 use std::fmt;
 
-/// The numbers of an answer, as the header names them.
+/// The numbers of an answer, as the header names them (section 11; rules 15.10 and 15.11).
 pub(crate) mod number {
     pub const ACCEPTED: u32 = 0;
     pub const LENGTH: u32 = 1;
@@ -20,7 +20,7 @@ pub(crate) mod number {
     pub const OVERLAP: u32 = 0xFFFF_FFFF;
 }
 
-/// What an entry answers: a number in the low 32 bits, a place in the high 32.
+/// What an entry answers: a number in the low 32 bits, a place in the high 32 (rule 15.2).
 #[derive(Clone, Copy, Debug, PartialEq, Eq, Hash)]
 #[must_use]
 pub struct Answer(u64);
@@ -76,10 +76,10 @@ impl fmt::Display for Answer {
     }
 }
 
-/// What an answer says. Records, receivers and buffers are counted from 0.
+/// What an answer says; reply k is rule 11.k. Records, receivers and buffers are counted from 0.
 ///
 /// A step reads its image first and then its round; `Length` and `Malformed` don't tell which of
-/// the two was at fault.
+/// the two was at fault (rule 15.4).
 #[derive(Clone, Copy, Debug, PartialEq, Eq, Hash)]
 #[non_exhaustive]
 pub enum Reply {
@@ -87,27 +87,28 @@ pub enum Reply {
     Accepted,
     /// 1: a buffer to be read has the wrong length.
     Length,
-    /// 2: a record of a wrong kind, station or zero byte, or a default other than 0 under A.
+    /// 2: a record that isn't well formed (rule 2.6), or a default other than 0 under A.
     Malformed { record: u32 },
-    /// 3: the algorithm isn't A or U, or n isn't 1 to 32.
+    /// 3: the algorithm isn't A or U, or n isn't 1 to 32 (rule 10.1).
     Range,
-    /// 4: the setup breaks an inequality.
+    /// 4: the setup breaks an inequality (rules 10.2 to 10.6).
     Inequality,
-    /// 5: "?" outside a vote round.
+    /// 5: "?" outside a vote round (rule 4.6).
     Query { record: u32 },
-    /// 6: the lowest receiver with more than alpha altered frames.
+    /// 6: the lowest receiver with more than alpha altered frames (rule 10.8).
     Altered { receiver: u32 },
-    /// 7: the lowest receiver that, under U, heard too few frames as they were sent.
+    /// 7: the lowest receiver that, under U, heard too few frames as they were sent (rule 10.9).
     Unsafe { receiver: u32 },
     /// 8: the run has had all its rounds.
     Full,
     /// 9: the buffer for the image hasn't the exact length.
     Buffer,
-    /// 10: the first well formed record of the image that breaks a rule of a run.
+    /// 10: the first well formed record of the image that breaks a rule of a run (rule 6.5).
     Rules { record: u32 },
-    /// The judge wasn't asked: the first (0) or second (1) buffer is null and its length isn't 0.
+    /// The judge wasn't asked: the first (0) or second (1) buffer is null and its length isn't 0
+    /// (rule 15.10).
     Null { buffer: u32 },
-    /// The judge wasn't asked: the two buffers have a byte in common.
+    /// The judge wasn't asked: the two buffers have a byte in common (rule 15.11).
     Overlap,
     /// A number that this crate doesn't know, or a place that doesn't go with the number.
     Unknown { number: u32, place: u32 },

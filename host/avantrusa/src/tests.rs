@@ -9,7 +9,7 @@ const IMAGE: usize = image_length(N);
 const ROUND: usize = round_length(N);
 const OPENING: usize = opening_length(N);
 
-/// A(3,2,2,0), starts 5 5 9.
+/// The opening of `tapes/case-09`.
 fn opening() -> Vec<u8> {
     let mut bytes =
         vec![kind::SETUP, A, N as u8, 2, 2, 0, 0, 0, kind::DEFAULT, 0, 0, 0, 0, 0, 0, 0];

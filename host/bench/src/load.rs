@@ -10,7 +10,7 @@ const SEED: u64 = 88_172_645_463_325_252;
 #[derive(Clone, Copy, PartialEq, Eq)]
 pub enum Faults {
     None,
-    /// In every row as many altered and lost as the predicates allow.
+    /// In every row as many altered and lost as the predicates allow (rules 10.8 and 10.9 of docs/RULES.md).
     Most,
 }
 
@@ -76,8 +76,8 @@ pub fn opening(setup: Setup, alike: bool, draw: &mut Draw) -> Vec<u8> {
     bytes
 }
 
-/// How many cells are lost in the row of p, besides alpha altered ones. Under U no more may be: what is left safe is one
-/// more than the bound. A bounds no losses, and loses as many as leave T + 1 heard in even rows, T in odd ones.
+/// How many cells are lost in the row of p, besides alpha altered ones. Under U no more may be: what is left safe is
+/// one more than the bound. A bounds no losses, and loses as many as leave T + 1 heard in even rows, T in odd ones.
 fn lost(setup: Setup, p: usize) -> usize {
     let [n, t, e, alpha] = [setup.n, setup.t, setup.e, setup.alpha].map(usize::from);
     if setup.algorithm == A {

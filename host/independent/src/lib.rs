@@ -1,6 +1,8 @@
 //! A second judge, for tests alone. It is written from the rules on paper and shares no code
 //! with the judge under test, so that the answers of the two can be compared. It is kept plain:
 //! counts are kept in a sorted map, records are checked one by one, nothing is clever.
+//!
+//! "Rule 8.2" and the like are numbers of `docs/RULES.md`.
 
 #![forbid(unsafe_code)]
 // Stations are named by number, and loops go over these numbers.
@@ -12,12 +14,12 @@ use std::fmt;
 #[cfg(test)]
 mod tests;
 
-/// The number of algorithm A in a setup record.
+/// The number of algorithm A in a setup record (rule 1.5).
 pub const A: u8 = 1;
-/// The number of algorithm U in a setup record.
+/// The number of algorithm U in a setup record (rule 1.5).
 pub const U: u8 = 2;
 
-/// The kinds of record.
+/// The kinds of record (rule 2.4).
 pub mod kind {
     pub const SETUP: u8 = 1;
     pub const DEFAULT: u8 = 2;
@@ -34,7 +36,8 @@ pub mod kind {
     pub const DECISION_ROUND: u8 = 14;
 }
 
-/// The answer to a call: 0 is "accepted", 1 to 10 are the refusals, each with its place.
+/// The answer to a call: 0 is "accepted", 1 to 10 are the refusals, each with its place (section
+/// 11).
 #[derive(Clone, Copy, Debug, PartialEq, Eq)]
 pub struct Reply {
     pub number: u32,
@@ -48,7 +51,7 @@ impl Reply {
         self == Reply::ACCEPTED
     }
 
-    /// The number in the low 32 bits, the place in the high 32.
+    /// The number in the low 32 bits, the place in the high 32 (rule 15.2).
     pub fn packed(self) -> u64 {
         u64::from(self.place) << 32 | u64::from(self.number)
     }
@@ -64,7 +67,7 @@ fn refuse<T>(number: u32, place: usize) -> Result<T, Reply> {
     Err(Reply { number, place: place as u32 })
 }
 
-/// What a receiver got from one sender in one round.
+/// What a receiver got from one sender in one round (rule 4.1).
 #[derive(Clone, Copy, Debug, PartialEq, Eq)]
 pub enum Cell {
     Lost,
@@ -72,15 +75,15 @@ pub enum Cell {
     Query,
 }
 
-/// The cells of a round: a row for each receiver, in it a cell for each sender.
+/// The cells of a round: a row for each receiver, in it a cell for each sender (rule 4.7).
 pub type Matrix = [[Cell; Run::STATIONS]; Run::STATIONS];
 pub const ALL_LOST: Matrix = [[Cell::Lost; Run::STATIONS]; Run::STATIONS];
 
-/// A set of senders for each receiver, a station to a bit.
+/// The sets of all receivers, with bit q for sender q (rule 7.8).
 pub type Sets = [u32; Run::STATIONS];
 pub const EMPTY: Sets = [0; Run::STATIONS];
 
-/// For each station, the value for which the decide rule fired in a round.
+/// For each station, the value for which the decide rule fired in a round (rules 8.4 and 9.8).
 pub type Fired = [Option<u32>; Run::STATIONS];
 pub const NONE_FIRED: Fired = [None; Run::STATIONS];
 
@@ -94,7 +97,7 @@ pub struct Setup {
 }
 
 impl Setup {
-    /// Refusal 3, then refusal 4.
+    /// Refusal 3, then refusal 4 (rules 10.1 to 10.7).
     pub fn check(self) -> Result<(), Reply> {
         if self.algorithm != A && self.algorithm != U {
             return refuse(3, 0);
@@ -132,15 +135,15 @@ impl Setup {
         Run::RECORD * self.stations() * self.stations()
     }
 
-    /// Under U: |SHO(p)| must be larger than this.
+    /// Under U: |SHO(p)| must be larger than this (rule 10.9).
     fn safe_bound(self) -> i32 {
         let [n, t, e, alpha] = [self.n, self.t, self.e, self.alpha].map(i32::from);
         (n + 2 * alpha - e - 1).max(t).max(alpha)
     }
 }
 
-/// A run as it is handed in: nothing says that it keeps the rules of a run. Flags and numbers
-/// are kept apart, so that a number beside "?" or beside "undecided" can be told.
+/// A run as it is handed in (rule 5.1): nothing says that it keeps the rules of a run. Flags and
+/// numbers are kept apart, so that a number beside "?" or beside "undecided" can be told.
 #[derive(Clone, Copy, Debug, PartialEq, Eq)]
 pub struct Run {
     pub setup: Setup,
@@ -159,6 +162,7 @@ impl Run {
     pub const ROUNDS: u32 = 4096;
     pub const RECORD: usize = 8;
 
+    /// The idle run (rule 5.10).
     pub const IDLE: Run = Run {
         setup: Setup { algorithm: 0, n: 0, t: 0, e: 0, alpha: 0 },
         default: 0,
@@ -171,12 +175,12 @@ impl Run {
         rounds: [0; Run::STATIONS],
     };
 
-    /// Whether the next round is a vote round: under U, a round with an even number.
+    /// Whether the next round is a vote round: under U, a round with an even number (rule 4.2).
     pub fn votes_next(&self) -> bool {
         self.setup.algorithm == U && self.clock % 2 == 1
     }
 
-    /// What station q is to send in the next round.
+    /// What station q is to send in the next round (rule 7.2).
     pub fn sends(&self, q: usize) -> Cell {
         if !self.votes_next() {
             Cell::Value(self.estimates[q])
@@ -188,7 +192,7 @@ impl Run {
     }
 }
 
-// Records
+// Records: section 2
 
 fn record(bytes: &[u8], k: usize) -> &[u8] {
     &bytes[Run::RECORD * k..Run::RECORD * (k + 1)]
@@ -205,17 +209,19 @@ fn made(kind: u8, first: usize, second: usize, value: u32) -> [u8; Run::RECORD] 
     [kind, first as u8, second as u8, 0, v[0], v[1], v[2], v[3]]
 }
 
-/// Whether the record is of this kind, with these bytes 1 and 2, byte 3 zero, any number.
+/// Whether the record is of this kind, with these bytes 1 and 2, byte 3 zero, any number (rule
+/// 2.6).
 fn fits(record: &[u8], kind: u8, first: usize, second: usize) -> bool {
     record == made(kind, first, second, number(record))
 }
 
-/// As `fits`, and the number is zero too.
+/// As `fits`, and the number is zero too (rule 2.8).
 fn fits_bare(record: &[u8], kind: u8, first: usize, second: usize) -> bool {
     record == made(kind, first, second, 0)
 }
 
-/// The setup record that begins an opening and an image: 1, 2, 3, 4 in that order.
+/// The setup record that begins an opening and an image: 1, 2, 3, 4 in that order (rules 12.1 and
+/// 12.3).
 fn read_setup(bytes: &[u8]) -> Result<Setup, Reply> {
     if bytes.len() < Run::RECORD {
         return refuse(1, 0);
@@ -229,7 +235,7 @@ fn read_setup(bytes: &[u8]) -> Result<Setup, Reply> {
     Ok(setup)
 }
 
-/// The default record, number 1 in an opening and in an image.
+/// The default record, number 1 in an opening and in an image (rule 3.2).
 fn read_default(setup: Setup, bytes: &[u8]) -> Result<u32, Reply> {
     let r = record(bytes, 1);
     if !fits(r, kind::DEFAULT, 0, 0) || setup.algorithm == A && number(r) != 0 {
@@ -245,7 +251,7 @@ fn setup_and_default(setup: Setup, default: u32) -> Vec<u8> {
     bytes
 }
 
-/// Refusal 9, or the bytes go into the buffer.
+/// Refusal 9, or the bytes go into the buffer (rule 11.9).
 fn deliver(bytes: &[u8], buffer: &mut [u8]) -> Result<(), Reply> {
     if bytes.len() != buffer.len() {
         return refuse(9, 0);
@@ -265,8 +271,9 @@ fn reply_and<T>(result: Result<T, Reply>, refused: T) -> (Reply, T) {
     }
 }
 
-// Openings
+// Openings: section 3
 
+/// Rules 3.3, 3.4 and 12.1.
 pub fn open(bytes: &[u8]) -> (Reply, Run) {
     reply_and(try_open(bytes), Run::IDLE)
 }
@@ -288,6 +295,7 @@ fn try_open(bytes: &[u8]) -> Result<Run, Reply> {
     Ok(run)
 }
 
+/// Rules 3.5 and 12.2.
 pub fn write_opening(
     setup: Setup,
     default: u32,
@@ -318,9 +326,9 @@ fn try_write_opening(
     deliver(&bytes, buffer)
 }
 
-// Runs and images
+// Runs and images: sections 5 and 6
 
-/// Whether the run keeps the rules of a run.
+/// Whether the run keeps the rules of a run (rules 5.2 to 5.9).
 pub fn sound(run: &Run) -> bool {
     if run.setup.check().is_err() {
         return false;
@@ -341,7 +349,7 @@ pub fn sound(run: &Run) -> bool {
 }
 
 /// The first record of the run's image that breaks a rule of a run although it is well formed:
-/// the clock's, then a vote's, then a decision round's. The setup is acceptable.
+/// the clock's, then a vote's, then a decision round's (rule 6.5). The setup is acceptable.
 fn first_fault(run: &Run) -> Option<usize> {
     let n = run.setup.stations();
     let vote_may_stand = run.setup.algorithm == U && run.clock % 2 == 1;
@@ -367,6 +375,7 @@ fn first_fault(run: &Run) -> Option<usize> {
     None
 }
 
+/// Refusal 10 at 0 (rule 5.12).
 fn must_be_sound(run: &Run) -> Result<(), Reply> {
     if sound(run) {
         Ok(())
@@ -375,6 +384,7 @@ fn must_be_sound(run: &Run) -> Result<(), Reply> {
     }
 }
 
+/// Rules 6.3, 6.6 and 12.3.
 pub fn load(image: &[u8]) -> (Reply, Run) {
     reply_and(try_load(image), Run::IDLE)
 }
@@ -434,6 +444,7 @@ fn try_load(image: &[u8]) -> Result<Run, Reply> {
     }
 }
 
+/// Rules 6.7 and 12.4.
 pub fn save(run: &Run, buffer: &mut [u8]) -> Reply {
     reply(try_save(run, buffer))
 }
@@ -460,8 +471,9 @@ fn try_save(run: &Run, buffer: &mut [u8]) -> Result<(), Reply> {
     deliver(&bytes, buffer)
 }
 
-// Rounds
+// Rounds: section 4
 
+/// Rule 12.5.
 pub fn read_round(run: &Run, bytes: &[u8]) -> (Reply, Matrix) {
     reply_and(try_read_round(run, bytes), ALL_LOST)
 }
@@ -494,6 +506,7 @@ fn try_read_round(run: &Run, bytes: &[u8]) -> Result<Matrix, Reply> {
     Ok(matrix)
 }
 
+/// Rules 4.9 and 12.7.
 pub fn write_round(run: &Run, matrix: &Matrix, buffer: &mut [u8]) -> Reply {
     reply(try_write_round(run, matrix, buffer))
 }
@@ -522,7 +535,7 @@ fn try_write_round(run: &Run, matrix: &Matrix, buffer: &mut [u8]) -> Result<(), 
     deliver(&bytes, buffer)
 }
 
-/// HO and SHO of every receiver; those from n up are empty.
+/// HO and SHO, receiver by receiver (rules 7.1 and 7.3).
 fn sets(run: &Run, matrix: &Matrix) -> (Sets, Sets) {
     let n = run.setup.stations();
     let (mut ho, mut sho) = (EMPTY, EMPTY);
@@ -540,6 +553,7 @@ fn sets(run: &Run, matrix: &Matrix) -> (Sets, Sets) {
     (ho, sho)
 }
 
+/// Rules 7.9 and 12.6.
 pub fn survey(run: &Run, bytes: &[u8]) -> (Reply, Sets, Sets) {
     match try_read_round(run, bytes) {
         Ok(matrix) => {
@@ -550,7 +564,7 @@ pub fn survey(run: &Run, bytes: &[u8]) -> (Reply, Sets, Sets) {
     }
 }
 
-// Playing
+// Playing: sections 8, 9 and 13
 
 /// What one round leaves at one station.
 struct Outcome {
@@ -559,7 +573,7 @@ struct Outcome {
     fired: Option<u32>,
 }
 
-/// How often each value was received; neither a lost cell nor "?" is a value.
+/// How often each value was received; neither a lost cell nor "?" is a value (rule 7.10).
 fn tally(row: &[Cell]) -> BTreeMap<u32, u32> {
     let mut counts = BTreeMap::new();
     for cell in row {
@@ -581,7 +595,7 @@ fn most_often(counts: &BTreeMap<u32, u32>) -> Option<u32> {
     counts.iter().find(|(_, count)| *count == most).map(|(&value, _)| value)
 }
 
-/// Algorithm 1, lines 7 to 10.
+/// Algorithm 1, lines 7 to 10 (rules 8.2 to 8.6).
 fn round_of_a(run: &Run, p: usize, row: &[Cell]) -> Outcome {
     let counts = tally(row);
     let heard = row.iter().filter(|cell| **cell != Cell::Lost).count();
@@ -593,13 +607,13 @@ fn round_of_a(run: &Run, p: usize, row: &[Cell]) -> Outcome {
     }
 }
 
-/// Algorithm 2, lines 8 and 9.
+/// Algorithm 2, lines 8 and 9 (rules 9.3 and 9.4).
 fn value_round_of_u(run: &Run, p: usize, row: &[Cell]) -> Outcome {
     let vote = more_than(&tally(row), run.setup.t);
     Outcome { estimate: run.estimates[p], vote, fired: None }
 }
 
-/// Algorithm 2, lines 14 to 20; at least alpha + 1 is more than alpha.
+/// Algorithm 2, lines 14 to 20 (rules 9.6 to 9.9); at least alpha + 1 is more than alpha.
 fn vote_round_of_u(run: &Run, row: &[Cell]) -> Outcome {
     let counts = tally(row);
     Outcome {
@@ -609,8 +623,8 @@ fn vote_round_of_u(run: &Run, row: &[Cell]) -> Outcome {
     }
 }
 
-/// One round. Where it is refused the run comes back as it was, nothing fired and the sets are
-/// empty.
+/// One round (rules 12.8, 9.10 and 9.11). Where it is refused the run comes back as it was, nothing
+/// fired and the sets are empty.
 pub fn step(run: &Run, bytes: &[u8]) -> (Reply, Run, Fired, Sets, Sets) {
     match try_step(run, bytes) {
         Ok((after, fired, ho, sho)) => (Reply::ACCEPTED, after, fired, ho, sho),
@@ -663,12 +677,13 @@ fn try_step(run: &Run, bytes: &[u8]) -> Result<(Run, Fired, Sets, Sets), Reply> 
     Ok((after, fired, ho, sho))
 }
 
-/// The part to be offered next: the bytes of a round, or all there is if that is less.
+/// The part to be offered next: the bytes of a round, or all there is if that is less (rule 13.3).
 fn next_part<'a>(run: &Run, tape: &'a [u8]) -> (&'a [u8], &'a [u8]) {
     tape.split_at(run.setup.round_length().min(tape.len()))
 }
 
-/// Many rounds: the reply to the last one, the run after it, the number of rounds accepted.
+/// Many rounds: the reply to the last one, the run after it, the number of rounds accepted (rules
+/// 12.9 and 13.4 to 13.8).
 pub fn play(run: &Run, tape: &[u8]) -> (Reply, Run, u32) {
     if let Err(reply) = must_be_sound(run) {
         return (reply, *run, 0);
@@ -685,20 +700,20 @@ pub fn play(run: &Run, tape: &[u8]) -> (Reply, Run, u32) {
     (Reply::ACCEPTED, run, accepted)
 }
 
-// The switch
+// The switch: section 15
 
-/// Opens a run into a lent image.
+/// Opens a run into a lent image (rule 12.10).
 pub fn judge_open(opening: &[u8], image: &mut [u8]) -> u64 {
     reply(try_open(opening).and_then(|run| try_save(&run, image))).packed()
 }
 
-/// Steps a lent image by one round.
+/// Steps a lent image by one round (rule 12.11).
 pub fn judge_step(image: &mut [u8], round: &[u8]) -> u64 {
     let stepped = try_load(image).and_then(|run| try_step(&run, round));
     reply(stepped.and_then(|(after, ..)| try_save(&after, image))).packed()
 }
 
-// The listing
+// The listing: section 14
 
 /// Entries separated by spaces, each with a space in front.
 pub fn spaced<T: fmt::Display>(entries: impl IntoIterator<Item = T>) -> String {
@@ -728,7 +743,7 @@ pub fn fired_text(fired: &[Option<u32>]) -> String {
     spaced(fired.iter().map(|&value| or_sign(value, "-")))
 }
 
-/// What the listing program prints for a tape.
+/// What the listing program prints for a tape (rules 13.2 and 14.2 to 14.6).
 pub fn listing(tape: &[u8]) -> String {
     let opening_length = match tape.get(2) {
         Some(&n) => tape.len().min(Run::RECORD * (2 + usize::from(n))),

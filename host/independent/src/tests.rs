@@ -1,4 +1,5 @@
-//! The bench sheet, cases 1 to 16, its listing, and the order of the refusals.
+//! The bench sheet, cases 1 to 16 (`tapes/README.md` has them), its listing, and the order of the
+//! refusals (section 12 of `docs/RULES.md`).
 
 use super::*;
 

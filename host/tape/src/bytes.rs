@@ -38,7 +38,7 @@ impl Tape {
         self.bytes.len()
     }
 
-    /// The number of stations, as the listing program finds it: byte 2.
+    /// The number of stations, as the listing program finds it: byte 2 (rule 13.2).
     pub fn stations(&self) -> Option<usize> {
         self.bytes.get(2).map(|&n| usize::from(n))
     }

@@ -30,6 +30,7 @@
 //! The number of stations is the tape's byte 2. What was to be sent is asked of the run that the tape
 //! so far gives, each time a round is written, so `again` under U alternates values and votes. That run
 //! and the listing come from the independent judge: this is a tool for tests, not a part of the judge.
+//! What the bytes are is said in `docs/RULES.md`, sections 2 to 4 and 13; "rule 13.2" is one of its rules.
 //! Numbers are never judged: a tape that is to be refused is written like any other.
 
 #![forbid(unsafe_code)]

@@ -11,7 +11,7 @@ fn refused(text: &str) -> String {
     text::tape(text.as_bytes()).expect_err(text).to_string()
 }
 
-/// Case 9 of the bench sheet, by hand.
+/// Case 9 of the bench sheet, `tapes/case-09`, by hand.
 #[rustfmt::skip]
 const CASE_9: [u8; 184] = [
     1, 1, 3, 2, 2, 0, 0, 0,  2, 0, 0, 0, 0, 0, 0, 0,
@@ -26,7 +26,7 @@ const CASE_9: [u8; 184] = [
     4, 2, 0, 0, 5, 0, 0, 0,  4, 2, 1, 0, 5, 0, 0, 0,  4, 2, 2, 0, 5, 0, 0, 0,
 ];
 
-/// The listing of case 9, as the rules print it.
+/// The listing of case 9, by rules 14.3 to 14.6 of `docs/RULES.md`.
 const CASE_9_LISTING: &str = "\
 A n=3 T=2 E=2 alpha=0
 1 hold 5 5 5 vote ? ? ? decide - - -

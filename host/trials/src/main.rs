@@ -1,6 +1,7 @@
 //! Writes trials for a judge under test: `trials GROUP DIR` puts the frames that the judge is to
 //! read into DIR/stdin, and the exact text that it must then print into DIR/stdout. What must be
-//! printed is what the independent judge answers.
+//! printed is what the independent judge answers. "Rule 6.4" and the like are numbers of
+//! `docs/RULES.md`.
 
 #![forbid(unsafe_code)]
 

@@ -1,4 +1,4 @@
-//! Rounds read, written and surveyed: operations 6 to 8.
+//! Rounds read, written and surveyed: operations 6 to 8 (rules 12.5 to 12.7).
 
 use crate::make::*;
 use crate::sheet::Sheet;
@@ -119,7 +119,7 @@ fn good_rounds(sheet: &mut Sheet) {
     sheet.write_round("write A3 4096 lost", &full, &ALL_LOST, &buffer(72));
 }
 
-/// What is altered and what is not.
+/// What is altered and what is not (rules 7.3 to 7.7).
 fn sets(sheet: &mut Sheet) {
     let value = Cell::Value;
     let run = opened(A3, 0, &[5, 7, 7]);
@@ -307,7 +307,7 @@ fn refused_writings(sheet: &mut Sheet) {
     let run = u7();
     let matrix = heard_but(&run, &[(6, 6, query), (7, 7, value)]);
     sheet.write_round("write U7 value ? at 48", &run, &matrix, &buffer(392));
-    // At clock 4,096 writing is not refused, but "?" is, as in a value round.
+    // At clock 4,096 writing is not refused, but "?" is, as in a value round (rules 4.2 and 12.7).
     let run = Run { clock: 4096, ..u2() };
     let matrix = heard_but(&run, &[(1, 1, query)]);
     sheet.write_round("write U2 4096 ? at 3", &run, &matrix, &buffer(32));

@@ -1,4 +1,4 @@
-//! Openings, images and runs: operations 1 to 5.
+//! Openings, images and runs: operations 1 to 5 (rules 12.1 to 12.4, and 5.2 to 5.9).
 
 use crate::make::*;
 use crate::sheet::Sheet;
@@ -15,7 +15,7 @@ pub fn fill(sheet: &mut Sheet) {
     broken_runs(sheet);
 }
 
-/// Setups on both sides of each inequality.
+/// Setups on both sides of each inequality (rules 10.2 to 10.6).
 fn edge_setups() -> Vec<Setup> {
     let a = [
         (3, 2, 2, 0),
@@ -67,7 +67,7 @@ fn edge_setups() -> Vec<Setup> {
     a.into_iter().map(of(A)).chain(u.into_iter().map(of(U))).collect()
 }
 
-/// Setups with an algorithm or n that may be out of range.
+/// Setups with an algorithm or n that may be out of range (rule 10.1).
 fn range_setups() -> Vec<Setup> {
     let mut all = Vec::new();
     for algorithm in [A, U] {
@@ -383,7 +383,8 @@ fn damaged_images(sheet: &mut Sheet) {
         sheet.load(&format!("load U6 clock {clock} decided in {round}"), &image(&run));
     }
 
-    // Two faults at once: every 2 comes before any 10, and then the first record counts.
+    // Two faults at once: every 2 comes before any 10, and then the first record counts (rules 6.4
+    // and 6.5).
     let mut bad_clock = clocked(fresh, 4097);
     sheet.load("load U6 4097, bad kind at 20", &with(&image(&bad_clock), &[(20, 0, 0)]));
     sheet.load("load U6 4097, bad kind at 26", &with(&image(&bad_clock), &[(26, 0, 9)]));

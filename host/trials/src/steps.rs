@@ -1,4 +1,4 @@
-//! Rounds played, one by one and many at a time: operations 9 and 10.
+//! Rounds played, one by one and many at a time: operations 9 and 10 (rules 12.8 and 12.9).
 
 use crate::make::*;
 use crate::sheet::Sheet;
@@ -128,7 +128,7 @@ fn bench_sheet_of_u(sheet: &mut Sheet) {
     sheet.play("case 15 played", &start, &round(&start, &heard_but(&start, &case_15)));
 }
 
-/// Case 16: round 4,096 is accepted and the next is refused.
+/// Case 16: round 4,096 is accepted and the next is refused (rule 11.8).
 fn last_round(sheet: &mut Sheet) {
     let runs = [
         ("A3", Run { clock: 4094, ..opened(A3, 0, &[5, 5, 9]) }),
@@ -159,7 +159,7 @@ fn last_round(sheet: &mut Sheet) {
 }
 
 fn rules_of_a(sheet: &mut Sheet) {
-    // The decision looks at what was received, not at the new estimate.
+    // The decision looks at what was received, not at the new estimate (rule 8.5).
     let run = opened(A5, 0, &[9, 4, 4, 4, 4]);
     let run = step(sheet, "A5 own frame lost", &run, &[(0, 0, LOST)]);
     step(sheet, "A5 own frame lost, all heard", &run, &[]);
@@ -194,7 +194,7 @@ fn rules_of_a(sheet: &mut Sheet) {
     step(sheet, "A3 max max 0", &run, &[]);
     step(sheet, "A3 max and 0", &opened(A3, 0, &[MAX, 0, MAX - 1]), &[]);
     step(sheet, "A3 2^31 and below", &opened(A3, 0, &[1 << 31, (1 << 31) - 1, 1 << 31]), &[]);
-    // A lost cell is not value 0.
+    // A lost cell is not value 0 (rule 7.10).
     let run = opened(A7, 0, &[0, 0, 0, 0, 0, 0, 9]);
     step(sheet, "A7 lost is not 0", &run, &[(0, 6, LOST), (6, 6, LOST)]);
     // Nothing heard, nothing changed.
@@ -242,7 +242,7 @@ fn rules_of_u(sheet: &mut Sheet) {
     let run = opened(U6, 1, &[0, 0, 0, 0, 9, 9]);
     step(sheet, "U6 lost is not 0", &run, &[(0, 4, LOST)]);
 
-    // alpha + 1 votes
+    // alpha + 1 votes (rule 9.6)
     let run = voting(U6, 1, &[6; 6], &[none, none, none, none, none, some(3)]);
     step(sheet, "U6 one vote", &run, &[]);
     step(sheet, "U6 one vote and one more", &run, &[(2, 0, value(3))]);
@@ -272,7 +272,7 @@ fn rules_of_u(sheet: &mut Sheet) {
     step(sheet, "U2 ? altered to vote", &run, &[(1, 1, value(2))]);
     let run = voting(U2, 9, &[1, 2], &[some(2), some(2)]);
     step(sheet, "U2 two votes", &run, &[]);
-    // 6 over all receivers comes before 7 over all.
+    // 6 over all receivers comes before 7 over all (rule 12.8).
     let run = opened(U7, 0, &[3; 7]);
     let changes = [(1, 0, LOST), (1, 1, LOST), (6, 5, value(1)), (6, 6, value(1))];
     step(sheet, "U7 7 at 1 and 6 at 6", &run, &changes);
@@ -378,7 +378,7 @@ fn refused_steps(sheet: &mut Sheet) {
         let changed = [&changed, &lost_one[24..]].concat();
         sheet.step(&format!("step A3 {place}"), &a3, &changed);
     }
-    // Two faults at once: 2 and 5 by record, and before 6 and 7.
+    // Two faults at once: 2 and 5 by record, and before 6 and 7 (rules 12.5 and 12.8).
     let query = |p, q| record(kind::HEARD_QUERY, p, q, 0);
     let altered = round(&a3, &heard_but(&a3, &[(0, 0, value(6))]));
     sheet.step("step A3 6 at 0", &a3, &altered);

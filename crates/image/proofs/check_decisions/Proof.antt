@@ -14,7 +14,8 @@ use Rattle.image.proofs.check_decisions.Statement.{statement}
 use Rattle.image.proofs.check_decisions.Tie as tie
 
 abbrev Inv-loop : tie.InvT-loop
-Inv-loop s clock decided rounds n i₀ i = (i ≤ n) × (first i (λ j. not (decision-fits s clock (getD decided j false) (getD rounds j 0))) ≡ none)
+Inv-loop s clock decided rounds n i₀ i =
+    (i ≤ n) × (first i (λ j. not (decision-fits s clock (getD decided j false) (getD rounds j 0))) ≡ none)
 
 abbrev μ-loop : tie.MeasureT-loop
 μ-loop s clock decided rounds n i₀ i = n - i
@@ -22,10 +23,20 @@ abbrev μ-loop : tie.MeasureT-loop
 returns : tie.Need-returns Inv-loop μ-loop
 unfolding check-decisions
 returns c =
-    rw (c .rounds-from .ensures, first-here _ (c .before .before .before .before .before .args .s .n) _ (c .before .before .before .before .loop .inv .1) (rw (← c .before .before .decision-fits .ensures) (c .before .if1 .taken)) (omega arith))
+    let asked = c .before .before in
+    let inside = asked .before .before in
+    let none = inside .loop .inv .1 in
+    rw (
+      c .rounds-from .ensures,
+      first-here _ (inside .before .args .s .n) _ none
+          (rw (← asked .decision-fits .ensures) (c .before .if1 .taken))
+          (omega arith),
+    )
 
 loop-again : tie.Need-loop-again Inv-loop μ-loop
-loop-again c = (omega arith, first-on _ _ (c .before .before .before .loop .inv .1) (rw (← c .before .decision-fits .ensures) (c .if1 .left)))
+loop-again c =
+    let none = c .before .before .before .loop .inv .1 in
+    (omega arith, first-on _ _ none (rw (← c .before .decision-fits .ensures) (c .if1 .left)))
 
 returns-2 : tie.Need-returns-2 Inv-loop μ-loop
 unfolding check-decisions

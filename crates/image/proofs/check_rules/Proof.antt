@@ -12,13 +12,15 @@ returns c = rw (check-rules-is, lt-leb _ _ (c .if1 .taken))
 returns-2 : tie.Need-returns-2
 returns-2 c =
     let asked = c .before .before in
-    rw (check-rules-is, le-leb _ _ (asked .before .before .if1 .left), refuses (asked .check-votes .ensures) (c .before .number .ensures) (c .if2 .taken)) (asked .check-votes .ensures)
+    let no = refuses (asked .check-votes .ensures) (c .before .number .ensures) (c .if2 .taken) in
+    rw (check-rules-is, le-leb _ _ (asked .before .before .if1 .left), no) (asked .check-votes .ensures)
 
 returns-3 : tie.Need-returns-3
 returns-3 c =
     let passed = c .before .before .before in
     let asked = passed .before .before in
-    rw (check-rules-is, le-leb _ _ (asked .before .before .if1 .left), accepts (asked .check-votes .ensures) (passed .before .number .ensures) (passed .if2 .left)) (c .check-decisions .ensures)
+    let yes = accepts (asked .check-votes .ensures) (passed .before .number .ensures) (passed .if2 .left) in
+    rw (check-rules-is, le-leb _ _ (asked .before .before .if1 .left), yes) (c .check-decisions .ensures)
 
 pub check-rules-spec : {M : Type 1} → statement M
 check-rules-spec =

@@ -22,10 +22,20 @@ abbrev μ-loop : tie.MeasureT-loop
 returns : tie.Need-returns Inv-loop μ-loop
 unfolding check-votes
 returns c =
-    rw (c .votes-from .ensures, first-here _ (c .before .before .before .before .before .args .s .n) _ (c .before .before .before .before .loop .inv .1) (rw (← c .before .before .vote-fits .ensures) (c .before .if1 .taken)) (omega arith))
+    let asked = c .before .before in
+    let inside = asked .before .before in
+    let none = inside .loop .inv .1 in
+    rw (
+      c .votes-from .ensures,
+      first-here _ (inside .before .args .s .n) _ none
+          (rw (← asked .vote-fits .ensures) (c .before .if1 .taken))
+          (omega arith),
+    )
 
 loop-again : tie.Need-loop-again Inv-loop μ-loop
-loop-again c = (omega arith, first-on _ _ (c .before .before .before .loop .inv .1) (rw (← c .before .vote-fits .ensures) (c .if1 .left)))
+loop-again c =
+    let none = c .before .before .before .loop .inv .1 in
+    (omega arith, first-on _ _ none (rw (← c .before .vote-fits .ensures) (c .if1 .left)))
 
 returns-2 : tie.Need-returns-2 Inv-loop μ-loop
 unfolding check-votes

@@ -2,7 +2,7 @@
 use mathlib.Core.Path.{_∙_}
 use borrow.Author.Needs.{needs}
 use Rattle.run.specs.Block.{record-of}
-use Rattle.image.specs.Image.{put-image}
+use Rattle.image.specs.Putting.{put-image, put-blocks}
 use Rattle.image.proofs.put_image.Statement.{statement}
 use Rattle.image.proofs.put_image.Tie as tie
 
@@ -13,11 +13,12 @@ same-length c =
     let votes = decisions .before .before .before .before .before .before .before in
     let estimates = votes .before .before .before .before .before .before .before in
     let clock = estimates .before .before .before .before .before in
-    rounds .put-block4 .kept .0 ∙ decisions .put-block3 .kept .0 ∙ votes .put-block2 .kept .0 ∙ estimates .put-block .kept .0 ∙ clock .put-record .kept .0
+    rounds .put-block4 .kept .0 ∙ decisions .put-block3 .kept .0 ∙ votes .put-block2 .kept .0
+    ∙ estimates .put-block .kept .0 ∙ clock .put-record .kept .0
     ∙ clock .before .before .before .before .before .put-head .kept .0
 
 returns : tie.Need-returns
-unfolding put-image record-of
+unfolding put-image put-blocks record-of
 returns c =
     let rounds = c .before .before in
     let decisions = rounds .before .before .before .before .before .before in

@@ -1,11 +1,10 @@
--- `image::run_in` meets its contract: it is the definition, field by field.
+-- `image::run_in` meets its contract: the records are read array by array.
 use borrow.Author.Needs.{needs}
-use Rattle.image.specs.Image.{run-in}
+use Rattle.image.proofs.Images.{run-in-is}
 use Rattle.image.proofs.run_in.Statement.{statement}
 use Rattle.image.proofs.run_in.Tie as tie
 
 returns : tie.Need-returns
-unfolding run-in
 returns c =
     let decisions = c .before in
     let decided = decisions .before in
@@ -16,6 +15,7 @@ returns c =
     let default = clock .before in
     let places = default .before in
     rw (
+      run-in-is,
       c .numbers-in4 .ensures,
       decisions .numbers-in3 .ensures,
       decided .flags-in2 .ensures,

@@ -1,21 +1,31 @@
--- `listing::list` is safe and ends: at most 4,097 rounds are offered, the buffers stay as long as they are, and the run keeps the rules of a run, so
--- that its rounds and its lines fit them.
+-- `listing::list` is safe and ends: so many rounds are offered and no more, the buffers stay as long as they are, and
+-- the run keeps the rules of a run, so that its rounds and its lines fit them.
 use mathlib.Core.Path.{_≡_}
-use Prim.Native.Nat.{_-_, _≤_}
+use Prim.Native.Nat.{ℕ, _+_, _-_, _≤_}
 use native.Mathlib.Omega.{arith}
 use borrow.Author.Needs.{needs}
 use lib.ListN.{length}
 use Rattle.run.specs.Keeps.{Keeps}
+use Rattle.run.specs.Run.{stations, most-rounds}
+use Rattle.round.specs.Reading.{round-length}
 use Rattle.listing.proofs.Runs.{stepped-keeps, round-fits}
 use Rattle.listing.proofs.list.Statement.{statement}
 use Rattle.listing.proofs.list.Tie as tie
 
+-- the bytes of the buffer for lines, and the rounds that are offered at most
+abbrev room : ℕ
+room = 65536
+
+abbrev offers : ℕ
+offers = most-rounds + 1
+
 abbrev Inv-loop : tie.InvT-loop
-Inv-loop size round₀ lines₀ at₀ run₀ reply₀ offered₀ round lines at run reply offered =
-    (size ≤ 8192) × (length round ≡ 8192) × (length lines ≡ 65536) × (at ≤ 65536) × (offered ≤ 4097) × Keeps run
+Inv-loop size round₀ out₀ at₀ run₀ reply₀ offered₀ round out at run reply offered =
+    (size ≤ round-length stations) × (length round ≡ round-length stations) × (length out ≡ room) × (at ≤ room)
+    × (offered ≤ offers) × Keeps run
 
 abbrev μ-loop : tie.MeasureT-loop
-μ-loop size round₀ lines₀ at₀ run₀ reply₀ offered₀ round lines at run reply offered = 4097 - offered
+μ-loop size round₀ out₀ at₀ run₀ reply₀ offered₀ round out at run reply offered = offers - offered
 
 loop-holds : tie.Need-loop-holds Inv-loop μ-loop
 loop-holds c =
@@ -32,9 +42,6 @@ loop-holds c =
 -- the run after an accepted round
 next-keeps : (c : tie.Else2 Inv-loop μ-loop) → Keeps (c .before .before .step .result .run)
 next-keeps c = stepped-keeps _ _ (c .before .before .step .ensures) (c .before .number .ensures) (c .if2 .left)
-
-put-round-requires : tie.Need-put-round-requires Inv-loop μ-loop
-put-round-requires c κs = (next-keeps (c .before .before .before .before .before .before) .setup .n-to, omega arith)
 
 loop-again : tie.Need-loop-again Inv-loop μ-loop
 loop-again c = (
@@ -67,7 +74,7 @@ list-spec =
     (λ c. search needs)
     (λ c κs. search needs)
     (λ c. search needs)
-    put-round-requires
+    (λ c κs. search needs)
     (λ c. search needs)
     (λ c. search needs)
     loop-again

@@ -5,7 +5,8 @@ use Rattle.listing.proofs.main.Statement.{statement}
 use Rattle.listing.proofs.main.Tie as tie
 
 list-requires : tie.Need-list-requires
-list-requires c κs = opened-keeps _ (c .before .before .before .open .ensures) (c .before .number .ensures) (c .if1 .left)
+list-requires c κs =
+    opened-keeps _ (c .before .before .before .open .ensures) (c .before .number .ensures) (c .if1 .left)
 
 pub main-spec : {M : Type 1} → statement M
 main-spec =

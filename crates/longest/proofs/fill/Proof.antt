@@ -1,6 +1,7 @@
--- `longest::fill` is safe and ends: a record is written or not, and the slice keeps its length. The measure is what is left of the records.
+-- `longest::fill` is safe and ends: a record is written or not, and the slice keeps its length. The measure is what is
+-- left of the records.
 use Prim.Native.Nat.{_≤_, _-_}
-use mathlib.Core.Path.{_≡_, refl, _∙_}
+use mathlib.Core.Path.{_≡_, refl}
 use native.Mathlib.Omega.{arith}
 use borrow.Author.Needs.{needs}
 use lib.ListN.{length}

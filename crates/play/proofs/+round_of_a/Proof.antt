@@ -1,18 +1,15 @@
--- `play::round_of_a` meets its contract: the tape is cut after the round that it takes, and the rest, which is shorter, is the callee's. The
--- measure is what is left of the tape.
-use mathlib.Core.Path.{sym, _∙_}
+-- `play::round_of_a` meets its contract: it takes a round, and the rest of the tape, which is shorter, is its own
+-- again. The measure is what is left of the tape.
+use mathlib.Core.Path.{_∙_}
 use Prim.Native.Nat.{ℕ, _<_}
-use native.Mathlib.Omega.{arith}
 use lib.ListN.{length}
-use lib.Seq.{length-take-le}
 use borrow.Author.Needs.{needs}
 use borrow.Fn.Kinds.{In}
 use borrow.Fn.PlainCycle.{Measures, is, falls, and}
-use Rattle.run.proofs.Reply.number.Reads as number
-use Rattle.judge.proofs.step.step.Reads as step
-use Rattle.play.proofs.Rounds.{Next, nothing, stops, keeps-on, goes-on, room, shorter}
-use Rattle.play.proofs.next_size.Reads as next-size
-use Rattle.play.proofs.ended.Reads as ended
+use Rattle.paper.specs.Rules.{update}
+use Rattle.round.proofs.read.round_length.Reads as round-length
+use Rattle.play.proofs.Tapes.{First, stops, awaits-next, whole, shorter, goes-on, room}
+use Rattle.play.proofs.take_first.Reads as take-first
 use Rattle.play.proofs.after.Reads as after
 use Rattle.play.proofs.round_of_a.Reads as round-of-a
 use Rattle.play.proofs.round_of_a.Kinds as round-of-a-kinds
@@ -30,67 +27,54 @@ round-of-a-at t = and 1 round-of-a-kinds.ps (is 1 round-of-a-kinds.ps μ-round-o
 abbrev round-of-a-below : ℕ → In 1 round-of-a-kinds.ps
 round-of-a-below t = and 1 round-of-a-kinds.ps (falls 1 round-of-a-kinds.ps _<_ μ-round-of-a t) round-of-a.Pre
 
+-- ---- `round_of_a`
 abbrev round-of-a-calls : ℕ → round-of-a-lts.Claims
 round-of-a-calls t = (
-  ended.Asked,
-  ended.Learnt,
-  next-size.Asked,
-  next-size.Learnt,
-  step.Asked,
-  step.Learnt,
-  number.Asked,
-  number.Learnt,
+  take-first.Asked,
+  take-first.Learnt,
+  round-length.Asked,
+  round-length.Learnt,
   round-of-a-below t,
   round-of-a.Post,
   after.Asked,
   after.Learnt,
 )
 
-round-of-a-next : (t : ℕ) (c : round-of-a-lts.After-step (round-of-a-calls t) (round-of-a-at t) round-of-a.Post)
-    → let start = c .before .before .before .before .before .before in
-    Next (start .args .run) (start .args .tape .now) (c .before .before .next-size .result) (c .step .result)
-round-of-a-next t c =
-    let sized = c .before .before in
-    record {
-      keeps = sized .before .before .before .before .pre .1;
-      some = sized .before .before .if1 .left;
-      size = sized .next-size .ensures;
-      stepped = c .step .ensures;
-    }
+module _ (t : ℕ) where
+  round-of-a-first : (c : round-of-a-lts.After-take-first (round-of-a-calls t) (round-of-a-at t) round-of-a.Post)
+      → First update (c .before .before .args .run) (c .before .before .args .tape .now) (c .take-first .result)
+  round-of-a-first c = record { awaits = c .before .before .pre .1; taken = c .take-first .ensures }
 
-round-of-a-returns : (t : ℕ) → round-of-a-lts.Need-returns (round-of-a-calls t) (round-of-a-at t) round-of-a.Post
-round-of-a-returns t c = c .ended .ensures ∙ sym (nothing _ _ (c .before .before .before .pre .1) (c .before .if1 .taken))
+  round-of-a-returns : round-of-a-lts.Need-returns (round-of-a-calls t) (round-of-a-at t) round-of-a.Post
+  round-of-a-returns c = stops (round-of-a-first (c .before .before)) (c .if1 .taken)
 
-round-of-a-slice-aggregate-step : (t : ℕ) → round-of-a-lts.Need-slice-aggregate-step (round-of-a-calls t) (round-of-a-at t) round-of-a.Post
-round-of-a-slice-aggregate-step t c = sym (length-take-le _ _ (omega (arith, c .before .next-size .ensures)))
+  round-of-a-whole : round-of-a-lts.Need-part-round-of-a-start (round-of-a-calls t) (round-of-a-at t) round-of-a.Post
+  round-of-a-whole c =
+      let else1 = c .before .before .before in
+      whole (round-of-a-first (else1 .before .before)) (else1 .if1 .left) (c .round-length .ensures)
 
-round-of-a-returns-2 : (t : ℕ) → round-of-a-lts.Need-returns-2 (round-of-a-calls t) (round-of-a-at t) round-of-a.Post
-round-of-a-returns-2 t c =
-    let numbered = c .before .before in
-    c .ended2 .ensures ∙ stops (round-of-a-next t (numbered .before)) (numbered .number .ensures) (c .before .if2 .taken)
+  round-of-a-requires : round-of-a-lts.Need-round-of-a-requires (round-of-a-calls t) (round-of-a-at t) round-of-a.Post
+  round-of-a-requires c κs =
+      let sized = c .before in
+      let else1 = sized .before .before .before in
+      let first = round-of-a-first (else1 .before .before) in
+      let less = shorter first (else1 .if1 .left) (sized .round-length .ensures) in
+      (rw (← else1 .before .before .before .before .pre .0) less, awaits-next first (else1 .if1 .left))
 
-round-of-a-part-start : (t : ℕ) → round-of-a-lts.Need-part-round-of-a-start (round-of-a-calls t) (round-of-a-at t) round-of-a.Post
-round-of-a-part-start t c = omega (arith, c .before .before .before .before .before .next-size .ensures)
+  round-of-a-after-requires : round-of-a-lts.Need-after-requires (round-of-a-calls t) (round-of-a-at t) round-of-a.Post
+  round-of-a-after-requires c κs =
+      let sized = c .before .before in
+      let else1 = sized .before .before .before in
+      let first = round-of-a-first (else1 .before .before) in
+      room first (else1 .if1 .left) (sized .round-length .ensures) _ (c .round-of-a .ensures)
 
-round-of-a-round-of-a-requires : (t : ℕ) → round-of-a-lts.Need-round-of-a-requires (round-of-a-calls t) (round-of-a-at t) round-of-a.Post
-round-of-a-round-of-a-requires t c κs =
-    let numbered = c .before .before .before in
-    let at = round-of-a-next t (numbered .before) in (
-      rw (← numbered .before .before .before .before .before .before .before .pre .0) (shorter at),
-      keeps-on at (numbered .number .ensures) (c .before .before .if2 .left),
-    )
-
-round-of-a-after-requires : (t : ℕ) → round-of-a-lts.Need-after-requires (round-of-a-calls t) (round-of-a-at t) round-of-a.Post
-round-of-a-after-requires t c κs =
-    let numbered = c .before .before .before .before in
-    room (round-of-a-next t (numbered .before)) (numbered .number .ensures) (c .before .before .before .if2 .left) _ _ (c .round-of-a .ensures)
-
-round-of-a-returns-3 : (t : ℕ) → round-of-a-lts.Need-returns-3 (round-of-a-calls t) (round-of-a-at t) round-of-a.Post
-round-of-a-returns-3 t c =
-    let branch = c .before .before .before .before in
-    let numbered = branch .before in
-    c .after .ensures
-    ∙ goes-on (round-of-a-next t (numbered .before)) (numbered .number .ensures) (branch .if2 .left) _ (c .before .round-of-a .ensures)
+  round-of-a-returns-2 : round-of-a-lts.Need-returns-2 (round-of-a-calls t) (round-of-a-at t) round-of-a.Post
+  round-of-a-returns-2 c =
+      let sized = c .before .before .before in
+      let else1 = sized .before .before .before in
+      let first = round-of-a-first (else1 .before .before) in
+      c .after .ensures ∙ goes-on first (else1 .if1 .left) (sized .round-length .ensures) _
+      (c .before .round-of-a .ensures)
 
 pub +round-of-a-spec : {M : Type 1} → statement M
 +round-of-a-spec =
@@ -99,14 +83,9 @@ pub +round-of-a-spec : {M : Type 1} → statement M
     (λ c κs. search needs)
     (round-of-a-returns t)
     (λ c κs. search needs)
-    (round-of-a-slice-aggregate-step t)
-    (λ c κs. search needs)
-    (λ c κs. search needs)
-    (λ c κs. search needs)
-    (round-of-a-returns-2 t)
+    (round-of-a-whole t)
+    (round-of-a-whole t)
     (λ c. search needs)
-    (round-of-a-part-start t)
-    (λ c. search needs)
-    (round-of-a-round-of-a-requires t)
+    (round-of-a-requires t)
     (round-of-a-after-requires t)
-    (round-of-a-returns-3 t))
+    (round-of-a-returns-2 t))

@@ -1,18 +1,15 @@
--- `play::value_round` and `play::vote_round` meet their contracts: each takes a round, and the rest of the tape, which is shorter, is the
--- other's. The measure is what is left of the tape.
-use mathlib.Core.Path.{sym, _∙_}
+-- `play::value_round` and `play::vote_round` meet their contracts: each takes its round, and the rest of the tape,
+-- which is shorter and begins with a round of the other kind, is the other's. The measure is what is left of the tape.
+use mathlib.Core.Path.{_∙_}
 use Prim.Native.Nat.{ℕ, _<_}
-use native.Mathlib.Omega.{arith}
 use lib.ListN.{length}
-use lib.Seq.{length-take-le}
 use borrow.Author.Needs.{needs}
 use borrow.Fn.Kinds.{In}
 use borrow.Fn.PlainCycle.{Measures, is, falls, and}
-use Rattle.run.proofs.Reply.number.Reads as number
-use Rattle.judge.proofs.step.step.Reads as step
-use Rattle.play.proofs.Rounds.{Next, nothing, stops, keeps-on, goes-on, room, shorter}
-use Rattle.play.proofs.next_size.Reads as next-size
-use Rattle.play.proofs.ended.Reads as ended
+use Rattle.paper.specs.Rules.{value, vote}
+use Rattle.round.proofs.read.round_length.Reads as round-length
+use Rattle.play.proofs.Tapes.{First, stops, awaits-next, whole, shorter, goes-on, room}
+use Rattle.play.proofs.take_first.Reads as take-first
 use Rattle.play.proofs.after.Reads as after
 use Rattle.play.proofs.value_round.Reads as value-round
 use Rattle.play.proofs.value_round.Kinds as value-round-kinds
@@ -43,129 +40,106 @@ vote-round-at t = and 1 vote-round-kinds.ps (is 1 vote-round-kinds.ps μ-vote-ro
 abbrev vote-round-below : ℕ → In 1 vote-round-kinds.ps
 vote-round-below t = and 1 vote-round-kinds.ps (falls 1 vote-round-kinds.ps _<_ μ-vote-round t) vote-round.Pre
 
+-- ---- `value_round`
 abbrev value-round-calls : ℕ → value-round-lts.Claims
 value-round-calls t = (
-  ended.Asked,
-  ended.Learnt,
-  next-size.Asked,
-  next-size.Learnt,
-  step.Asked,
-  step.Learnt,
-  number.Asked,
-  number.Learnt,
+  take-first.Asked,
+  take-first.Learnt,
+  round-length.Asked,
+  round-length.Learnt,
   vote-round-below t,
   vote-round.Post,
   after.Asked,
   after.Learnt,
 )
 
-value-round-next : (t : ℕ) (c : value-round-lts.After-step (value-round-calls t) (value-round-at t) value-round.Post)
-    → let start = c .before .before .before .before .before .before in
-    Next (start .args .run) (start .args .tape .now) (c .before .before .next-size .result) (c .step .result)
-value-round-next t c =
-    let sized = c .before .before in
-    record {
-      keeps = sized .before .before .before .before .pre .1;
-      some = sized .before .before .if1 .left;
-      size = sized .next-size .ensures;
-      stepped = c .step .ensures;
-    }
+module _ (t : ℕ) where
+  value-round-first : (c : value-round-lts.After-take-first (value-round-calls t) (value-round-at t) value-round.Post)
+      → First value (c .before .before .args .run) (c .before .before .args .tape .now) (c .take-first .result)
+  value-round-first c = record { awaits = c .before .before .pre .1; taken = c .take-first .ensures }
 
-value-round-returns : (t : ℕ) → value-round-lts.Need-returns (value-round-calls t) (value-round-at t) value-round.Post
-value-round-returns t c = c .ended .ensures ∙ sym (nothing _ _ (c .before .before .before .pre .1) (c .before .if1 .taken))
+  value-round-returns : value-round-lts.Need-returns (value-round-calls t) (value-round-at t) value-round.Post
+  value-round-returns c = stops (value-round-first (c .before .before)) (c .if1 .taken)
 
-value-round-slice-aggregate-step : (t : ℕ) → value-round-lts.Need-slice-aggregate-step (value-round-calls t) (value-round-at t) value-round.Post
-value-round-slice-aggregate-step t c = sym (length-take-le _ _ (omega (arith, c .before .next-size .ensures)))
+  value-round-whole : value-round-lts.Need-part-vote-round-start (value-round-calls t)
+      (value-round-at t) value-round.Post
+  value-round-whole c =
+      let else1 = c .before .before .before in
+      whole (value-round-first (else1 .before .before)) (else1 .if1 .left) (c .round-length .ensures)
 
-value-round-returns-2 : (t : ℕ) → value-round-lts.Need-returns-2 (value-round-calls t) (value-round-at t) value-round.Post
-value-round-returns-2 t c =
-    let numbered = c .before .before in
-    c .ended2 .ensures ∙ stops (value-round-next t (numbered .before)) (numbered .number .ensures) (c .before .if2 .taken)
+  value-round-requires : value-round-lts.Need-vote-round-requires (value-round-calls t)
+      (value-round-at t) value-round.Post
+  value-round-requires c κs =
+      let sized = c .before in
+      let else1 = sized .before .before .before in
+      let first = value-round-first (else1 .before .before) in
+      let less = shorter first (else1 .if1 .left) (sized .round-length .ensures) in
+      (rw (← else1 .before .before .before .before .pre .0) less, awaits-next first (else1 .if1 .left))
 
-value-round-part-start : (t : ℕ) → value-round-lts.Need-part-vote-round-start (value-round-calls t) (value-round-at t) value-round.Post
-value-round-part-start t c = omega (arith, c .before .before .before .before .before .next-size .ensures)
+  value-round-after-requires : value-round-lts.Need-after-requires (value-round-calls t)
+      (value-round-at t) value-round.Post
+  value-round-after-requires c κs =
+      let sized = c .before .before in
+      let else1 = sized .before .before .before in
+      let first = value-round-first (else1 .before .before) in
+      room first (else1 .if1 .left) (sized .round-length .ensures) _ (c .vote-round .ensures)
 
-value-round-vote-round-requires : (t : ℕ) → value-round-lts.Need-vote-round-requires (value-round-calls t) (value-round-at t) value-round.Post
-value-round-vote-round-requires t c κs =
-    let numbered = c .before .before .before in
-    let at = value-round-next t (numbered .before) in (
-      rw (← numbered .before .before .before .before .before .before .before .pre .0) (shorter at),
-      keeps-on at (numbered .number .ensures) (c .before .before .if2 .left),
-    )
+  value-round-returns-2 : value-round-lts.Need-returns-2 (value-round-calls t) (value-round-at t) value-round.Post
+  value-round-returns-2 c =
+      let sized = c .before .before .before in
+      let else1 = sized .before .before .before in
+      let first = value-round-first (else1 .before .before) in
+      c .after .ensures ∙ goes-on first (else1 .if1 .left) (sized .round-length .ensures) _
+      (c .before .vote-round .ensures)
 
-value-round-after-requires : (t : ℕ) → value-round-lts.Need-after-requires (value-round-calls t) (value-round-at t) value-round.Post
-value-round-after-requires t c κs =
-    let numbered = c .before .before .before .before in
-    room (value-round-next t (numbered .before)) (numbered .number .ensures) (c .before .before .before .if2 .left) _ _ (c .vote-round .ensures)
-
-value-round-returns-3 : (t : ℕ) → value-round-lts.Need-returns-3 (value-round-calls t) (value-round-at t) value-round.Post
-value-round-returns-3 t c =
-    let branch = c .before .before .before .before in
-    let numbered = branch .before in
-    c .after .ensures
-    ∙ goes-on (value-round-next t (numbered .before)) (numbered .number .ensures) (branch .if2 .left) _ (c .before .vote-round .ensures)
-
+-- ---- `vote_round`
 abbrev vote-round-calls : ℕ → vote-round-lts.Claims
 vote-round-calls t = (
-  ended.Asked,
-  ended.Learnt,
-  next-size.Asked,
-  next-size.Learnt,
-  step.Asked,
-  step.Learnt,
-  number.Asked,
-  number.Learnt,
+  take-first.Asked,
+  take-first.Learnt,
+  round-length.Asked,
+  round-length.Learnt,
   value-round-below t,
   value-round.Post,
   after.Asked,
   after.Learnt,
 )
 
-vote-round-next : (t : ℕ) (c : vote-round-lts.After-step (vote-round-calls t) (vote-round-at t) vote-round.Post)
-    → let start = c .before .before .before .before .before .before in
-    Next (start .args .run) (start .args .tape .now) (c .before .before .next-size .result) (c .step .result)
-vote-round-next t c =
-    let sized = c .before .before in
-    record {
-      keeps = sized .before .before .before .before .pre .1;
-      some = sized .before .before .if1 .left;
-      size = sized .next-size .ensures;
-      stepped = c .step .ensures;
-    }
+module _ (t : ℕ) where
+  vote-round-first : (c : vote-round-lts.After-take-first (vote-round-calls t) (vote-round-at t) vote-round.Post)
+      → First vote (c .before .before .args .run) (c .before .before .args .tape .now) (c .take-first .result)
+  vote-round-first c = record { awaits = c .before .before .pre .1; taken = c .take-first .ensures }
 
-vote-round-returns : (t : ℕ) → vote-round-lts.Need-returns (vote-round-calls t) (vote-round-at t) vote-round.Post
-vote-round-returns t c = c .ended .ensures ∙ sym (nothing _ _ (c .before .before .before .pre .1) (c .before .if1 .taken))
+  vote-round-returns : vote-round-lts.Need-returns (vote-round-calls t) (vote-round-at t) vote-round.Post
+  vote-round-returns c = stops (vote-round-first (c .before .before)) (c .if1 .taken)
 
-vote-round-slice-aggregate-step : (t : ℕ) → vote-round-lts.Need-slice-aggregate-step (vote-round-calls t) (vote-round-at t) vote-round.Post
-vote-round-slice-aggregate-step t c = sym (length-take-le _ _ (omega (arith, c .before .next-size .ensures)))
+  vote-round-whole : vote-round-lts.Need-part-value-round-start (vote-round-calls t) (vote-round-at t) vote-round.Post
+  vote-round-whole c =
+      let else1 = c .before .before .before in
+      whole (vote-round-first (else1 .before .before)) (else1 .if1 .left) (c .round-length .ensures)
 
-vote-round-returns-2 : (t : ℕ) → vote-round-lts.Need-returns-2 (vote-round-calls t) (vote-round-at t) vote-round.Post
-vote-round-returns-2 t c =
-    let numbered = c .before .before in
-    c .ended2 .ensures ∙ stops (vote-round-next t (numbered .before)) (numbered .number .ensures) (c .before .if2 .taken)
+  vote-round-requires : vote-round-lts.Need-value-round-requires (vote-round-calls t) (vote-round-at t) vote-round.Post
+  vote-round-requires c κs =
+      let sized = c .before in
+      let else1 = sized .before .before .before in
+      let first = vote-round-first (else1 .before .before) in
+      let less = shorter first (else1 .if1 .left) (sized .round-length .ensures) in
+      (rw (← else1 .before .before .before .before .pre .0) less, awaits-next first (else1 .if1 .left))
 
-vote-round-part-start : (t : ℕ) → vote-round-lts.Need-part-value-round-start (vote-round-calls t) (vote-round-at t) vote-round.Post
-vote-round-part-start t c = omega (arith, c .before .before .before .before .before .next-size .ensures)
+  vote-round-after-requires : vote-round-lts.Need-after-requires (vote-round-calls t) (vote-round-at t) vote-round.Post
+  vote-round-after-requires c κs =
+      let sized = c .before .before in
+      let else1 = sized .before .before .before in
+      let first = vote-round-first (else1 .before .before) in
+      room first (else1 .if1 .left) (sized .round-length .ensures) _ (c .value-round .ensures)
 
-vote-round-value-round-requires : (t : ℕ) → vote-round-lts.Need-value-round-requires (vote-round-calls t) (vote-round-at t) vote-round.Post
-vote-round-value-round-requires t c κs =
-    let numbered = c .before .before .before in
-    let at = vote-round-next t (numbered .before) in (
-      rw (← numbered .before .before .before .before .before .before .before .pre .0) (shorter at),
-      keeps-on at (numbered .number .ensures) (c .before .before .if2 .left),
-    )
-
-vote-round-after-requires : (t : ℕ) → vote-round-lts.Need-after-requires (vote-round-calls t) (vote-round-at t) vote-round.Post
-vote-round-after-requires t c κs =
-    let numbered = c .before .before .before .before in
-    room (vote-round-next t (numbered .before)) (numbered .number .ensures) (c .before .before .before .if2 .left) _ _ (c .value-round .ensures)
-
-vote-round-returns-3 : (t : ℕ) → vote-round-lts.Need-returns-3 (vote-round-calls t) (vote-round-at t) vote-round.Post
-vote-round-returns-3 t c =
-    let branch = c .before .before .before .before in
-    let numbered = branch .before in
-    c .after .ensures
-    ∙ goes-on (vote-round-next t (numbered .before)) (numbered .number .ensures) (branch .if2 .left) _ (c .before .value-round .ensures)
+  vote-round-returns-2 : vote-round-lts.Need-returns-2 (vote-round-calls t) (vote-round-at t) vote-round.Post
+  vote-round-returns-2 c =
+      let sized = c .before .before .before in
+      let else1 = sized .before .before .before in
+      let first = vote-round-first (else1 .before .before) in
+      c .after .ensures ∙ goes-on first (else1 .if1 .left) (sized .round-length .ensures) _
+      (c .before .value-round .ensures)
 
 pub +value-round+vote-round-spec : {M : Type 1} → statement M
 +value-round+vote-round-spec =
@@ -174,29 +148,19 @@ pub +value-round+vote-round-spec : {M : Type 1} → statement M
     (λ c κs. search needs)
     (value-round-returns t)
     (λ c κs. search needs)
-    (value-round-slice-aggregate-step t)
-    (λ c κs. search needs)
-    (λ c κs. search needs)
-    (λ c κs. search needs)
-    (value-round-returns-2 t)
+    (value-round-whole t)
+    (value-round-whole t)
     (λ c. search needs)
-    (value-round-part-start t)
-    (λ c. search needs)
-    (value-round-vote-round-requires t)
+    (value-round-requires t)
     (value-round-after-requires t)
-    (value-round-returns-3 t))
+    (value-round-returns-2 t))
     (λ t. vote-round-lts.spec (vote-round-calls t) (vote-round-at t) vote-round.Post
     (λ c κs. search needs)
     (vote-round-returns t)
     (λ c κs. search needs)
-    (vote-round-slice-aggregate-step t)
-    (λ c κs. search needs)
-    (λ c κs. search needs)
-    (λ c κs. search needs)
-    (vote-round-returns-2 t)
+    (vote-round-whole t)
+    (vote-round-whole t)
     (λ c. search needs)
-    (vote-round-part-start t)
-    (λ c. search needs)
-    (vote-round-value-round-requires t)
+    (vote-round-requires t)
     (vote-round-after-requires t)
-    (vote-round-returns-3 t))
+    (vote-round-returns-2 t))

@@ -38,7 +38,12 @@ returns-3 c =
 
 returns-4 : tie.Need-returns-4
 unfolding clear
-returns-4 c = rw (eq-eqb _ _ (c .before .before .before .before .if1 .taken), c .before .before .if2 .taken, ne-eqb _ _ (c .if3 .left))
+returns-4 c = rw (
+  eq-eqb _ _ (c .before .before .before .before .if1 .taken),
+  c .before .before .if2 .taken,
+  ne-eqb _ _
+      (c .if3 .left),
+)
 
 returns-5 : tie.Need-returns-5
 unfolding clear

@@ -1,4 +1,5 @@
--- `rules::may_decide` meets its contract: the code asks the definition's tests in its order, up to the one that settles it.
+-- `rules::may_decide` meets its contract: the code asks the definition's tests in its order, up to the one that settles
+-- it.
 use borrow.Author.Needs.{needs}
 use borrow.Author.Tests.{le-leb, lt-leb}
 use Rattle.run.specs.Run.{may-decide}

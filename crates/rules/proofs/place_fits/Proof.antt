@@ -14,4 +14,5 @@ unfolding place-fits
 returns-2 c = rw (le-ltb _ _ (c .before .if1 .left)) (c .clear .ensures)
 
 pub place-fits-spec : {M : Type 1} → statement M
-place-fits-spec = tie.close (tie.spec (λ c. search needs) (λ c κs. search needs) (λ c κs. search needs) returns returns-2)
+place-fits-spec = tie.close (tie.spec (λ c. search needs) (λ c κs. search needs)
+    (λ c κs. search needs) returns returns-2)

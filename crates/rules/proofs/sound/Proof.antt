@@ -1,4 +1,5 @@
--- `rules::sound` meets its contract: the places passed all keep the rules, so at the end every one does; one that does not makes the whole false.
+-- `rules::sound` meets its contract: the places passed all keep the rules, so at the end every one does; one that does
+-- not makes the whole false.
 use mathlib.Core.Path.{_≡_}
 use mathlib.Core.Bool.{true}
 use Prim.Native.Nat.{_-_, _≤_}
@@ -39,7 +40,11 @@ returns-3 : tie.Need-returns-3 Inv-loop μ-loop
 unfolding sound
 returns-3 c =
     let done : c .before .loop .i ≡ stations = omega arith in
-    rw (passes (c .before .before .before .head-fits .ensures) (c .before .before .if1 .left), rw done at (c .before .loop .inv .1))
+    rw (
+      passes (c .before .before .before .head-fits .ensures) (c .before .before .if1 .left),
+      rw done at
+          (c .before .loop .inv .1),
+    )
 
 pub sound-spec : {M : Type 1} → statement M
 sound-spec =

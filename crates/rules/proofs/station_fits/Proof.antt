@@ -1,4 +1,5 @@
--- `rules::station_fits` meets its contract: the code asks the definition's tests in its order, up to the first that fails.
+-- `rules::station_fits` meets its contract: the code asks the definition's tests in its order, up to the first that
+-- fails.
 use borrow.Author.Needs.{needs}
 use Rattle.run.specs.Run.{station-fits}
 use Rattle.rules.proofs.station_fits.Statement.{statement}
@@ -44,4 +45,5 @@ unfolding station-fits
 returns-4 c = rw (← c .before .vote-fits .ensures, c .if1 .left)
 
 pub station-fits-spec : {M : Type 1} → statement M
-station-fits-spec = tie.close (tie.spec (λ c κs. search needs) (λ c κs. search needs) (λ c κs. search needs) (λ c κs. search needs) returns returns-2 returns-3 returns-4)
+station-fits-spec = tie.close (tie.spec (λ c κs. search needs) (λ c κs. search needs) (λ c κs. search needs)
+    (λ c κs. search needs) returns returns-2 returns-3 returns-4)

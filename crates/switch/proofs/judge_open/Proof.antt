@@ -1,5 +1,5 @@
--- `switch::judge_open` meets its contract: the opening's refusal and a buffer of another length are answered with nothing written; else the buffer is
--- filled.
+-- `switch::judge_open` meets its contract: the opening's refusal and a buffer of another length are answered with
+-- nothing written; else the buffer is filled.
 use mathlib.Core.Path.{_≡_, ap, _∙_}
 use borrow.Author.Needs.{needs}
 use Rattle.run.specs.declared.Opened.{Opened}
@@ -7,7 +7,8 @@ use Rattle.run.specs.declared.Reply.the-variants.{Accepted}
 use Rattle.run.specs.Opening.{check-opening}
 use Rattle.run.proofs.Asked.{refuses, accepts}
 use Rattle.switch.specs.Switch.{answer-of}
-use Rattle.switch.proofs.Calls.{opened-reply, open-refused, open-misfit, open-fit}
+use Rattle.run.proofs.Openings.{opened-reply}
+use Rattle.switch.proofs.Calls.{open-refused, open-misfit, open-fit}
 use Rattle.switch.proofs.judge_open.Statement.{statement}
 use Rattle.switch.proofs.judge_open.Tie as tie
 
@@ -20,14 +21,16 @@ good c = accepts (replied (c .before .before)) (c .before .number .ensures) (c .
 returns : tie.Need-returns
 returns c =
     let opened = c .before .before .before in
-    let told = open-refused _ _ (refuses (replied opened) (c .before .before .number .ensures) (c .before .if1 .taken)) in
+    let told = open-refused _ _ (refuses (replied opened) (c .before .before .number .ensures) (c .before .if1 .taken))
+    in
     (c .answer .ensures ∙ ap answer-of (replied opened ∙ told .0), told .1)
 
 returns-2 : tie.Need-returns-2
 returns-2 c =
     let long = c .before .before in
     let on = long .before .before .before in
-    let told = open-misfit _ _ (good on) (rw (long .image-length .ensures, on .before .before .open .ensures) at (c .before .if2 .taken)) in
+    let told = open-misfit _ _ (good on) (rw (long .image-length .ensures, on .before .before .open .ensures) at
+    (c .before .if2 .taken)) in
     (c .answer2 .ensures ∙ ap answer-of (told .0), told .1)
 
 returns-3 : tie.Need-returns-3
@@ -37,8 +40,11 @@ returns-3 c =
     let long = fits .before in
     let on = long .before .before .before in
     let opened = on .before .before in
-    let told = open-fit _ _ (good on) (rw (long .image-length .ensures, opened .open .ensures) at (fits .if2 .left)) in
-    (c .answer3 .ensures ∙ ap answer-of (replied opened ∙ good on ∙ told .0), rw (put .put-image .ensures, opened .open .ensures) (told .1))
+    let told = open-fit _ _ (good on) (rw (long .image-length .ensures, opened .open .ensures) at (fits .if2 .left)) in (
+      c .answer3 .ensures ∙ ap answer-of (replied opened ∙ good on
+          ∙ told .0),
+      rw (put .put-image .ensures, opened .open .ensures) (told .1),
+    )
 
 pub judge-open-spec : {M : Type 1} → statement M
 judge-open-spec =

@@ -1,4 +1,5 @@
--- `trial_steps::main` is safe and ends: the frames that may still be read fall, and the buffer stays as long as it was made.
+-- `trial_steps::main` is safe and ends: the frames that may still be read fall, and the buffer stays as long as it was
+-- made.
 use mathlib.Core.Path.{_≡_}
 use lib.ListN.{length}
 use borrow.Author.Needs.{needs}

@@ -3,7 +3,7 @@
 use crate::rounds::{counts, safe_bound};
 use independent::{Cell, Matrix, Run, A, U};
 
-/// The numbers that an entry can answer.
+/// The numbers that an entry can answer (rule 15.4).
 const OPEN_NUMBERS: [u32; 6] = [0, 1, 2, 3, 4, 9];
 const STEP_NUMBERS: [u32; 10] = [0, 1, 2, 3, 4, 5, 6, 7, 8, 10];
 

@@ -68,7 +68,8 @@ pub fn query(random: &mut Random, round: &mut [u8]) {
     record[4..].fill(0);
 }
 
-/// A well formed image of n stations, of which a record breaks the rules of a run or nearly does.
+/// A well formed image of n stations, of which a record breaks the rules of a run or nearly does
+/// (rule 6.5).
 pub fn rule(random: &mut Random, image: &mut [u8], n: usize, clock: u32) {
     let p = random.below(n);
     let near_clock = [clock.wrapping_sub(1), clock, clock + 1, clock + 2];

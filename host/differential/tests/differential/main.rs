@@ -2,7 +2,8 @@
 //! every buffer. The cases are drawn from a seed. A number that an entry can answer, or a
 //! threshold, that no case reached is a failure too.
 //!
-//! AVANTRUSA_SEED and AVANTRUSA_CASES name another seed and another number of cases.
+//! AVANTRUSA_SEED and AVANTRUSA_CASES name another seed and another number of cases. "Rule 15.4"
+//! and the like are numbers of `docs/RULES.md`.
 
 mod census;
 mod compare;

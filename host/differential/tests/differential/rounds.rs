@@ -4,7 +4,7 @@ use crate::random::Random;
 use independent::{Cell, Matrix, Run, Setup, ALL_LOST, U};
 use std::collections::BTreeMap;
 
-/// Under U, |SHO(p)| must be larger than this.
+/// Under U, |SHO(p)| must be larger than this (rule 10.9).
 pub fn safe_bound(setup: Setup) -> usize {
     let [n, t, e, alpha] = [setup.n, setup.t, setup.e, setup.alpha].map(usize::from);
     (n + 2 * alpha - e - 1).max(t).max(alpha)
@@ -47,7 +47,7 @@ impl Row<'_> {
         self.heard().len() - self.safe().len()
     }
 
-    /// Whether the row keeps the predicates.
+    /// Whether the row keeps the predicates (rules 10.8 and 10.9).
     fn lawful(&self) -> bool {
         let safe_enough = self.setup.algorithm != U || self.safe().len() > safe_bound(self.setup);
         self.altered() <= usize::from(self.setup.alpha) && safe_enough

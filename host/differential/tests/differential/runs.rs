@@ -3,7 +3,7 @@
 use crate::random::Random;
 use independent::{Run, Setup, A, U};
 
-/// The setups that are acceptable, by algorithm, n and alpha.
+/// The setups that are acceptable (rules 10.2 to 10.6), by algorithm, n and alpha.
 pub struct Setups {
     lists: Vec<Vec<Setup>>,
 }
@@ -81,7 +81,7 @@ fn values(random: &mut Random, setup: Setup, palette: &[u32]) -> [u32; Run::STAT
     values
 }
 
-/// A run that keeps the rules of a run; most of them no opening reaches.
+/// A run that keeps the rules of a run (rule 5.11); most of them no opening reaches.
 pub fn sound_run(random: &mut Random, setups: &Setups) -> (Run, Vec<u32>) {
     let setup = setups.draw(random);
     let palette = palette(random);

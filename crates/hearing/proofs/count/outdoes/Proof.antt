@@ -1,4 +1,5 @@
--- `hearing::count::outdoes` meets its contract: it asks the tests of the definition in its order, and stops where the rest changes nothing.
+-- `hearing::count::outdoes` meets its contract: it asks the tests of the definition in its order, and stops where the
+-- rest changes nothing.
 use borrow.Author.Tests.{lt-ltb, le-ltb, eq-eqb, ne-eqb}
 use Rattle.hearing.proofs.count.outdoes.Statement.{statement}
 use Rattle.hearing.proofs.count.outdoes.Tie as tie

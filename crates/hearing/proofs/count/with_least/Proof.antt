@@ -1,6 +1,6 @@
 -- `hearing::count::with_least` meets its contract: the value takes its place just where `undercuts` says so.
 use borrow.Author.Needs.{needs}
-use Rattle.hearing.specs.Tally.{with-least}
+use Rattle.hearing.specs.Counting.{with-least}
 use Rattle.hearing.proofs.count.with_least.Statement.{statement}
 use Rattle.hearing.proofs.count.with_least.Tie as tie
 

@@ -1,6 +1,6 @@
 -- `hearing::count::with_most` meets its contract: the value takes its place just where `outdoes` says so.
 use borrow.Author.Needs.{needs}
-use Rattle.hearing.specs.Tally.{with-most}
+use Rattle.hearing.specs.Counting.{with-most}
 use Rattle.hearing.proofs.count.with_most.Statement.{statement}
 use Rattle.hearing.proofs.count.with_most.Tie as tie
 

@@ -17,4 +17,5 @@ unfolding arrived
 returns-3 c = rw (c .enum-told3 .given .1)
 
 pub arrived-spec : {M : Type 1} → statement M
-arrived-spec = tie.close (tie.spec (λ c. search needs) (λ c. search needs) (λ c. search needs) returns returns-2 returns-3)
+arrived-spec =
+    tie.close (tie.spec (λ c. search needs) (λ c. search needs) (λ c. search needs) returns returns-2 returns-3)

@@ -4,7 +4,7 @@ use mathlib.Core.Bool.{Bool, true, false, not}
 use Prim.Native.Nat.{ℕ}
 use borrow.Author.Needs.{needs}
 use Rattle.paper.specs.Heard.{heard, query, holds}
-use Rattle.hearing.specs.Survey.{message}
+use Rattle.round.specs.Bridge.{message}
 use Rattle.hearing.proofs.heard.holds.Statement.{statement}
 use Rattle.hearing.proofs.heard.holds.Tie as tie
 
@@ -27,7 +27,10 @@ unfolding holds
 returns-3 c = rw (c .before .before .c .given .1, c .if1 .left)
 
 returns-4 : tie.Need-returns-4
-returns-4 c = rw (c .enum-told2 .given .1) (query-sent (c .before .before .args .given) (c .before .before .args .value))
+returns-4 c =
+    rw (c .enum-told2 .given .1) (query-sent (c .before .before .args .given) (c .before .before .args .value))
 
 pub holds-spec : {M : Type 1} → statement M
-holds-spec = tie.close (tie.spec (λ c. search needs) (λ c. search needs) (λ c. search needs) returns returns-2 returns-3 returns-4)
+holds-spec =
+    tie.close (tie.spec (λ c. search needs) (λ c. search needs)
+    (λ c. search needs) returns returns-2 returns-3 returns-4)

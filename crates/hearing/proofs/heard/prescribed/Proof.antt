@@ -1,5 +1,5 @@
 -- `hearing::heard::prescribed` meets its contract: it makes what the definition makes, by the same flag.
-use Rattle.hearing.specs.Survey.{prescribed}
+use Rattle.hearing.specs.Surveying.{prescribed}
 use Rattle.hearing.proofs.heard.prescribed.Statement.{statement}
 use Rattle.hearing.proofs.heard.prescribed.Tie as tie
 

@@ -1,50 +1,45 @@
--- `hearing::heard::senders` meets its contract: nobody stands before the first, and each turn adds the next sender's bit, up to the array's
--- end if n goes past it.
+-- `hearing::heard::senders` meets its contract: from the array's end, or from n, down to the first to be asked, each
+-- turn puts the next sender's bit below the mask; shifted to their places, they are the senders from the first on.
 use mathlib.Core.Path.{_≡_, sym}
 use mathlib.Core.List.{List}
-use Prim.Native.Nat.{ℕ, _+_, _-_, min, _≤_}
+use Prim.Native.Nat.{ℕ, _+_, min, _≤_}
 use native.Mathlib.Omega.{arith}
 use lib.Dec.{eqb}
 use lib.ListN.{getD}
 use borrow.Author.Needs.{needs}
-use borrow.Author.Tests.{le-leb}
-use Rattle.hearing.specs.Masks.{mask}
-use Rattle.hearing.specs.Tally.{from-on}
-use Rattle.hearing.proofs.Masks.{mask-more, mask-fits}
-use Rattle.hearing.proofs.Counts.{none-before}
+use Rattle.paper.specs.Stations.{Stations}
+use Rattle.run.specs.Run.{stations}
+use Rattle.hearing.proofs.Downward.{mask-from, from-none, from-more, from-fits, from-shifted}
 use Rattle.hearing.proofs.heard.senders.Statement.{statement}
 use Rattle.hearing.proofs.heard.senders.Tie as tie
 
+-- who sent v
+abbrev sent-it : List ℕ → ℕ → Stations
+sent-it codes v q = eqb (getD codes q 0) (v + 1)
+
 abbrev Inv-loop : tie.InvT-loop
-Inv-loop codes first n v last set₀ q₀ set q = (first ≤ q) × (q ≤ last) × (set ≡ mask q (from-on codes first v))
+Inv-loop codes first n v set₀ last set q = (first ≤ q) × (q ≤ last) × (set ≡ mask-from q last (sent-it codes v))
 
 abbrev μ-loop : tie.MeasureT-loop
-μ-loop codes first n v last set₀ q₀ set q = last - q
+μ-loop codes first n v set₀ last set q = q
 
--- the sender of a turn stands from the first on
-from-first : (codes : List ℕ) (first v q : ℕ) → first ≤ q → eqb (getD codes q 0) (v + 1) ≡ from-on codes first v q
-from-first codes first v q l = rw (le-leb first q l)
-
-add-set : tie.Need-add-set Inv-loop μ-loop
-add-set c =
-    let loop = c .before .before .before .loop in
-    let args = c .before .before .before .before .before .args in
-    rw (loop .inv .2, c .bit .ensures, from-first (args .codes .now) (args .first) (args .v) (loop .q) (loop .inv .0))
-    (record { fits = mask-fits 32 _ _ (omega arith) })
+grown-requires : tie.Need-grown-requires Inv-loop μ-loop
+grown-requires c κs =
+    let loop = c .before .before .loop in
+    rw (loop .inv .2) (from-fits _ _ _ (omega arith) (omega arith) (omega arith))
 
 loop-again : tie.Need-loop-again Inv-loop μ-loop
 loop-again c =
     let loop = c .before .before .before .loop in
-    let args = c .before .before .before .before .before .args in (
-      omega arith,
-      omega arith,
-      rw (loop .inv .2, c .bit .ensures, from-first (args .codes .now) (args .first) (args .v) (loop .q) (loop .inv .0)) (mask-more _ _),
-    )
+    (omega arith, omega arith, rw (c .grown .ensures, loop .inv .2) (from-more _ _ _ (omega arith) (omega arith)))
 
 returns : tie.Need-returns Inv-loop μ-loop
 returns c =
-    let done : c .before .loop .q ≡ min (c .before .before .before .args .n) 32 = omega arith in
-    rw done at (c .before .loop .inv .2)
+    let args = c .before .before .before .args in
+    let all : c .before .before .places .result ≡ min (args .n) stations = c .before .before .places .ensures in
+    let done : c .before .loop .q ≡ args .first = omega arith in
+    rw (rw (done, all) at (c .before .loop .inv .2))
+    (from-shifted _ _ (sent-it (args .codes .now) (args .v)) (omega arith) (omega arith))
 
 pub senders-spec : {M : Type 1} → statement M
 senders-spec =
@@ -53,13 +48,14 @@ senders-spec =
     Inv-loop
     μ-loop
     (λ c κs. search needs)
-    (λ c. (omega arith, omega arith, sym (none-before (c .before .args .codes .now) _ _)))
+    (λ c. (omega arith, omega arith, sym (from-none _ _)))
     (λ c. search needs)
     (λ c. search needs)
     (λ c. search needs)
-    (λ c κs. search needs)
-    add-set
     (λ c. search needs)
+    grown-requires
     (λ c. search needs)
     loop-again
+    (λ c. search needs)
+    (λ c. search needs)
     returns)

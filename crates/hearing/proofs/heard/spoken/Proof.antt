@@ -1,49 +1,49 @@
--- `hearing::heard::spoken` meets its contract: each turn stores the next sender's value and adds its bit, up to the array's end if n goes
--- past it.
-use mathlib.Core.Path.{_≡_, refl, ap₂, sym}
+-- `hearing::heard::spoken` meets its contract: from the array's end, or from n, down to the first sender, each turn
+-- stores the next sender's value and puts its bit below the mask.
+use mathlib.Core.Path.{_≡_, ap₂, sym, _∙_}
 use mathlib.Core.List.{List}
-use Prim.Native.Nat.{ℕ, _-_, min, _≤_}
+use Prim.Native.Nat.{ℕ, min, _≤_}
 use native.Mathlib.Omega.{arith}
 use borrow.Author.Needs.{needs}
 use Rattle.run.specs.Run.{stations}
-use Rattle.run.specs.Filled.{filled}
-use Rattle.run.proofs.Filled.{filled-none, filled-more}
-use Rattle.hearing.specs.Masks.{mask}
-use Rattle.hearing.specs.Survey.{row-of}
-use Rattle.hearing.specs.Tally.{among, any, code-of, spoken-in}
-use Rattle.hearing.proofs.Masks.{mask-more, mask-fits}
+use Rattle.hearing.specs.Surveying.{row-of}
+use Rattle.hearing.specs.Counting.{among, any, code-of, spoken-in}
+use Rattle.hearing.proofs.Downward.{mask-from, from-none, from-more, from-fits, from-all, filled-from}
+use Rattle.hearing.proofs.Downward.{fills-none, fills-more, fills-all}
 use Rattle.hearing.proofs.heard.spoken.Statement.{statement}
 use Rattle.hearing.proofs.heard.spoken.Tie as tie
 
 abbrev Inv-loop : tie.InvT-loop
-Inv-loop n cells last codes₀ senders₀ q₀ codes senders q =
-    (q ≤ last) × (codes ≡ filled stations q (λ i. code-of (row-of cells i)) 0) × (senders ≡ mask q (among any (row-of cells)))
+Inv-loop n cells codes₀ senders₀ last codes senders q =
+    (q ≤ last) × (codes ≡ filled-from stations last (λ i. code-of (row-of cells i)) 0 q)
+    × (senders ≡ mask-from q last (among any (row-of cells)))
 
 abbrev μ-loop : tie.MeasureT-loop
-μ-loop n cells last codes₀ senders₀ q₀ codes senders q = last - q
+μ-loop n cells codes₀ senders₀ last codes senders q = q
 
-loop-holds : tie.Need-loop-holds Inv-loop μ-loop
-unfolding mask
-loop-holds c = (omega arith, sym (filled-none stations _ 0), refl)
-
-add-senders : tie.Need-add-senders Inv-loop μ-loop
-add-senders c =
-    rw (c .before .before .before .before .before .loop .inv .2, c .bit .ensures, c .before .has-value .ensures)
-    (record { fits = mask-fits 32 _ _ (omega arith) })
+grown-requires : tie.Need-grown-requires Inv-loop μ-loop
+grown-requires c κs =
+    let loop = c .before .before .before .before .loop in
+    rw (loop .inv .2) (from-fits _ _ _ (omega arith) (omega arith) (omega arith))
 
 loop-again : tie.Need-loop-again Inv-loop μ-loop
 loop-again c =
-    let head = c .before .before .before .before .before in (
+    let code = c .before .before in
+    let loop = code .before .before .before .loop in (
       omega arith,
-      rw (head .loop .inv .1, c .before .before .code-of .ensures) (filled-more stations _ _ 0 (omega arith)),
-      rw (head .loop .inv .2, c .bit .ensures, c .before .has-value .ensures) (mask-more _ _),
+      rw (loop .inv .1, code .code-of .ensures) (fills-more stations _ _ 0 _ (omega arith) (omega arith) (omega arith)),
+      rw (c .grown .ensures, loop .inv .2, c .before .has-value .ensures) (from-more _ _ _ (omega arith) (omega arith)),
     )
 
 returns : tie.Need-returns Inv-loop μ-loop
 unfolding spoken-in
 returns c =
-    let done : c .before .loop .q ≡ min (c .before .before .before .args .n) 32 = omega arith in
-    ap₂ (λ (a : List ℕ) (b : ℕ). record { codes = a; senders = b }) (rw done at (c .before .loop .inv .1)) (rw done at (c .before .loop .inv .2))
+    let n = c .before .before .before .args .n in
+    let all : c .before .before .places .result ≡ min n stations = c .before .before .places .ensures in
+    let done : c .before .loop .q ≡ 0 = omega arith in
+    ap₂ (λ (a : List ℕ) (b : ℕ). record { codes = a; senders = b })
+    ((rw (done, all) at (c .before .loop .inv .1)) ∙ fills-all _ _ _ _)
+    ((rw (done, all) at (c .before .loop .inv .2)) ∙ from-all _ _)
 
 pub spoken-spec : {M : Type 1} → statement M
 spoken-spec =
@@ -52,16 +52,15 @@ spoken-spec =
     Inv-loop
     μ-loop
     (λ c κs. search needs)
-    loop-holds
+    (λ c. (omega arith, fills-none stations _ _ 0, sym (from-none _ _)))
     (λ c. search needs)
-    (λ c. search needs)
-    (λ c κs. search needs)
     (λ c. search needs)
     (λ c. search needs)
     (λ c κs. search needs)
-    (λ c κs. search needs)
-    add-senders
     (λ c. search needs)
+    (λ c. search needs)
+    (λ c κs. search needs)
+    grown-requires
     (λ c. search needs)
     loop-again
     returns)

@@ -3,13 +3,23 @@ use mathlib.Core.Path.{_≡_, _∙_}
 use Prim.Native.Nat.{_-_, _≤_}
 use native.Mathlib.Omega.{arith}
 use borrow.Author.Needs.{needs}
-use Rattle.judge.proofs.Advances.{next-to, fires-to, fired-to, next-none, fires-none, fired-none, next-more, fires-more, fired-more, advanced-done}
+use Rattle.judge.specs.Taking.{next-to, fires-to, fired-to}
+use Rattle.judge.proofs.Advances.{
+  next-none,
+  fires-none,
+  fired-none,
+  next-more,
+  fires-more,
+  fired-more,
+  advanced-done,
+}
 use Rattle.judge.proofs.step.advance.Statement.{statement}
 use Rattle.judge.proofs.step.advance.Tie as tie
 
 abbrev Inv-loop : tie.InvT-loop
 Inv-loop voting run counted setup last number next₀ fires₀ fired₀ p₀ next fires fired p =
-    (p ≤ last) × (next ≡ next-to run voting counted p) × (fires ≡ fires-to run voting counted p) × (fired ≡ fired-to run voting counted p)
+    (p ≤ last) × (next ≡ next-to run voting counted p) × (fires ≡ fires-to run voting counted p)
+    × (fired ≡ fired-to run voting counted p)
 
 abbrev μ-loop : tie.MeasureT-loop
 μ-loop voting run counted setup last number next₀ fires₀ fired₀ p₀ next fires fired p = last - p
@@ -19,7 +29,7 @@ loop-again c =
     let inside = c .before .before .before .before .before .before .before .before .before in
     let start = inside .before .before .before .before .before in
     let inv = inside .before .loop .inv in
-    let here = c .outcome .ensures in (
+    let here = c .outcome-of .ensures in (
       omega (arith, inside .loop-test .taken),
       next-more _ _ _ (omega (arith, inside .loop-test .taken, start .pre .0)) here (inv .1),
       fires-more _ _ _ (omega (arith, inside .loop-test .taken, start .pre .0)) here (inv .2),

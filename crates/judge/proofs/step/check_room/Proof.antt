@@ -25,7 +25,9 @@ returns-4 : tie.Need-returns-4
 returns-4 c =
     let room = c .before .before .before in
     let asked = room .before .before in
-    room-there _ _ (passes (asked .before .sound .ensures) (asked .if1 .left)) (room .if2 .left) (c .if3 .left ∙ c .before .round-length .ensures)
+    room-there _ _ (passes (asked .before .sound .ensures) (asked .if1 .left)) (room .if2 .left) (c .if3 .left
+    ∙ c .before .round-length .ensures)
 
 pub check-room-spec : {M : Type 1} → statement M
-check-room-spec = tie.close (tie.spec (λ c κs. search needs) returns returns-2 (λ c κs. search needs) returns-3 returns-4)
+check-room-spec = tie.close (tie.spec (λ c κs. search needs) returns returns-2
+    (λ c κs. search needs) returns-3 returns-4)

@@ -1,4 +1,5 @@
--- `judge::step::step` meets its contract: a round that there is no room for gives the step's refusal, and any other is taken.
+-- `judge::step::step` meets its contract: a round that there is no room for gives the step's refusal, and any other is
+-- taken.
 use mathlib.Core.Path.{_∙_}
 use borrow.Author.Needs.{needs}
 use Rattle.run.proofs.Asked.{accepts, refuses}
@@ -10,12 +11,14 @@ returns : tie.Need-returns
 returns c =
     let asked = c .before .before in
     let checked = asked .before .check-room .ensures in
-    c .refused .ensures ∙ room-refused _ _ checked (refuses checked (asked .number .ensures) (c .before .if1 .taken))
+    c .unstepped .ensures ∙ room-refused _ _ checked (refuses checked (asked .number .ensures) (c .before .if1 .taken))
 
 take-requires : tie.Need-take-requires
 take-requires c κs =
-    let asked = c .before .before .before in
-    (accepts (asked .before .check-room .ensures) (asked .number .ensures) (c .before .before .if1 .left), c .may-vote .ensures)
+    let asked = c .before .before .before in (
+      accepts (asked .before .check-room .ensures) (asked .number .ensures) (c .before .before .if1 .left),
+      c .may-vote .ensures,
+    )
 
 pub step-spec : {M : Type 1} → statement M
 step-spec =

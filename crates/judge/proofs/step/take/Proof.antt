@@ -1,5 +1,5 @@
--- `judge::step::take` meets its contract: its sets are those of the round, so that 6 and 7 are the checks that the step has left, and a round
--- that passes them moves the run as the paper says.
+-- `judge::step::take` meets its contract: its sets are those of the round, so that 6 and 7 are the checks that the step
+-- has left, and a round that passes them moves the run as the paper says.
 use Prim.Native.Nat.{ℕ}
 use mathlib.Core.Path.{_≡_, ap, ap₂, _∙_}
 use mathlib.Core.Bool.{Bool}
@@ -55,23 +55,25 @@ module _ (c : tie.Else1) where
   heard = ap (λ (r : Counted). r .ho) (counted-is rows) ∙ counted-ho (run rows) (bs rows) (keeps rows .setup .n-to) good
 
   safely : rows .count-rows .result .sho ≡ sho-sets (run rows) (run rows .setup .n) (bs rows)
-  safely = ap (λ (r : Counted). r .sho) (counted-is rows) ∙ counted-sho (run rows) (bs rows) (keeps rows .setup .n-to) good
+  safely = ap (λ (r : Counted). r .sho) (counted-is rows)
+      ∙ counted-sho (run rows) (bs rows) (keeps rows .setup .n-to) good
 
 returns : tie.Need-returns
 returns c =
     let asked = c .before .before in
-    c .refused .ensures
-    ∙ cells-refused _ _ (there (asked .before)) (said (asked .before)) (refuses (said (asked .before)) (asked .number .ensures) (c .before .if1 .taken))
+    c .unstepped .ensures
+    ∙ cells-refused _ _ (there (asked .before)) (said (asked .before)) (refuses (said (asked .before))
+    (asked .number .ensures) (c .before .if1 .taken))
 
-check-sets-requires : tie.Need-check-sets-requires
-check-sets-requires c κs = keeps (c .before .before .before .before) .setup .n-to
+ask-sets-requires : tie.Need-ask-sets-requires
+ask-sets-requires c κs = keeps (c .before .before .before .before) .setup .n-to
 
 returns-2 : tie.Need-returns-2
 returns-2 c =
     let asked = c .before .before in
     let passed = asked .before .before .before .before in
-    let checked = asked .before .check-sets .ensures in
-    c .refused2 .ensures
+    let checked = asked .before .ask-sets .ensures in
+    c .unstepped2 .ensures
     ∙ sets-refused _ _ (there (passed .before .before)) (good passed) _ _ (heard passed) (safely passed) checked
     (refuses checked (asked .number2 .ensures) (c .before .if2 .taken))
 
@@ -86,11 +88,13 @@ returns-3 c =
     let asked = c .before .before in
     let passed = asked .before .before .before .before in
     let rows = passed .before .before in
-    let checked = asked .before .check-sets .ensures in
+    let checked = asked .before .ask-sets .ensures in
     c .advance .ensures
-    ∙ ap₂ (λ (votes : Bool) (r : Counted). advanced (run rows) votes r) (rows .before .before .before .pre .1) (counted-is rows)
+    ∙ ap₂ (λ (voting : Bool) (r : Counted). advanced (run rows) voting r) (rows .before .before .before .pre .1)
+    (counted-is rows)
     ∙ advanced-is _ _ (keeps rows) (good passed)
-    ∙ sets-accepted _ _ (there rows) (good passed) _ _ (heard passed) (safely passed) (accepts checked (asked .number2 .ensures) (c .before .if2 .left))
+    ∙ sets-accepted _ _ (there rows) (good passed) _ _ (heard passed) (safely passed)
+    (accepts checked (asked .number2 .ensures) (c .before .if2 .left))
 
 pub take-spec : {M : Type 1} → statement M
 take-spec =
@@ -100,7 +104,7 @@ take-spec =
     (λ c κs. search needs)
     (λ c κs. search needs)
     returns
-    check-sets-requires
+    ask-sets-requires
     (λ c κs. search needs)
     (λ c κs. search needs)
     returns-2

@@ -1,4 +1,5 @@
--- `round::read::check_cell` meets its contract: 2 for a record that doesn't fit, then 5 for a "?" that may not be heard.
+-- `round::read::check_cell` meets its contract: 2 for a record that doesn't fit, then 5 for a "?" that may not be
+-- heard.
 use borrow.Author.Needs.{needs}
 use borrow.Author.Tests.{eq-eqb, ne-eqb, not-true, not-false}
 use Rattle.round.specs.Cells.{check-cell}
@@ -22,7 +23,12 @@ unfolding check-cell
 returns-3 c =
     let left = c .before .before in
     let fits = left .before .before .cell-fits in
-    rw (← fits .ensures, not-false (fits .result) (left .before .if1 .left), left .if2 .left, eq-eqb _ _ (c .if3 .taken))
+    rw (
+      ← fits .ensures,
+      not-false (fits .result) (left .before .if1 .left),
+      left .if2 .left,
+      eq-eqb _ _ (c .if3 .taken),
+    )
 
 returns-4 : tie.Need-returns-4
 unfolding check-cell

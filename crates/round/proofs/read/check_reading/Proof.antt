@@ -12,14 +12,16 @@ returns c = reading-unsound _ _ (fails (c .before .sound .ensures) (c .if1 .take
 returns-2 : tie.Need-returns-2
 returns-2 c =
     let asked = c .before .before .before in
-    reading-length _ _ (passes (asked .before .sound .ensures) (asked .if1 .left)) (λ e. c .if2 .taken (e ∙ sym (c .before .round-length .ensures)))
+    reading-length _ _ (passes (asked .before .sound .ensures) (asked .if1 .left))
+    (λ e. c .if2 .taken (e ∙ sym (c .before .round-length .ensures)))
 
 returns-3 : tie.Need-returns-3
 returns-3 c =
     let size = c .before .before in
     let asked = size .before .before .before in
     c .check-cells .ensures
-    ∙ rw (c .before .may-vote .ensures) (reading-cells _ _ (passes (asked .before .sound .ensures) (asked .if1 .left)) (size .if2 .left ∙ size .before .round-length .ensures))
+    ∙ rw (c .before .may-vote .ensures) (reading-cells _ _ (passes (asked .before .sound .ensures) (asked .if1 .left))
+    (size .if2 .left ∙ size .before .round-length .ensures))
 
 pub check-reading-spec : {M : Type 1} → statement M
 check-reading-spec =

@@ -3,6 +3,7 @@ use Prim.Native.Nat.{_*_}
 use native.Mathlib.Nat.{mul-assoc}
 use native.Mathlib.Omega.{arith}
 use borrow.Author.Needs.{needs}
+use Rattle.run.specs.Record.{record-bytes}
 use Rattle.round.specs.Reading.{row-part}
 use Rattle.round.proofs.Places.{byte-product}
 use Rattle.round.proofs.Rows.{part-min}
@@ -13,20 +14,21 @@ mul-from : tie.Need-mul-from
 mul-from c =
     let n = c .before .args .n in
     let p = c .before .args .p in
-    omega (arith, mul-assoc 8 n p, byte-product n p (omega arith) (omega arith))
+    omega (arith, mul-assoc record-bytes n p, byte-product n p (omega arith) (omega arith))
 
 add-least : tie.Need-add-least
 add-least c =
     let n = c .before .before .args .n in
     let p = c .before .before .args .p in
-    omega (arith, mul-assoc 8 n p, byte-product n p (omega arith) (omega arith))
+    omega (arith, mul-assoc record-bytes n p, byte-product n p (omega arith) (omega arith))
 
 returns : tie.Need-returns
 unfolding row-part
 returns c =
     let n = c .before .before .before .before .args .n in
     let p = c .before .before .before .before .args .p in
-    rw (c .before .least2 .ensures, c .before .before .least .ensures) (part-min (8 * n * p) (8 * n) (c .before .before .before .before .args .round .now))
+    rw (c .before .least2 .ensures, c .before .before .least .ensures)
+    (part-min (record-bytes * n * p) (record-bytes * n) (c .before .before .before .before .args .round .now))
 
 pub row-part-spec : {M : Type 1} → statement M
 row-part-spec =

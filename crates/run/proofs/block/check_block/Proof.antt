@@ -5,7 +5,7 @@ use mathlib.Core.Option.{none}
 use Prim.Native.Nat.{_+_, _-_, _≤_}
 use native.Mathlib.Omega.{arith}
 use borrow.Author.Needs.{needs}
-use Rattle.run.specs.Record.{recordAt}
+use Rattle.run.specs.Record.{record-at}
 use Rattle.run.specs.First.{first}
 use Rattle.run.specs.Block.{block-fits, check-block}
 use Rattle.run.proofs.First.{first-zero, first-on, first-here}
@@ -13,7 +13,8 @@ use Rattle.run.proofs.block.check_block.Statement.{statement}
 use Rattle.run.proofs.block.check_block.Tie as tie
 
 abbrev Inv-loop : tie.InvT-loop
-Inv-loop bytes start n shape i₀ i = (i ≤ n) × (first i (λ j. not (block-fits shape j (recordAt bytes (start + j)))) ≡ none)
+Inv-loop bytes start n shape i₀ i = (i ≤ n) × (first i (λ j. not (block-fits shape j (record-at bytes (start + j))))
+    ≡ none)
 
 abbrev μ-loop : tie.MeasureT-loop
 μ-loop bytes start n shape i₀ i = n - i
@@ -21,10 +22,18 @@ abbrev μ-loop : tie.MeasureT-loop
 returns : tie.Need-returns Inv-loop μ-loop
 unfolding check-block
 returns c =
-    rw (first-here _ (c .before .before .before .before .before .before .args .n) _ (c .before .before .before .before .loop .inv .1) (rw (← c .before .before .record-at .ensures, ← c .before .fits2 .ensures) (c .if1 .taken)) (omega arith))
+    rw (first-here _ (c .before .before .before .before .before .before .args .n) _
+    (c .before .before .before .before .loop .inv .1) (rw (
+      ← c .before .before .record-at .ensures,
+      ← c .before .fits2 .ensures,
+    ) (c .if1 .taken)) (omega arith))
 
 loop-again : tie.Need-loop-again Inv-loop μ-loop
-loop-again c = (omega arith, first-on _ _ (c .before .before .before .before .loop .inv .1) (rw (← c .before .before .record-at .ensures, ← c .before .fits2 .ensures) (c .if1 .left)))
+loop-again c = (
+  omega arith,
+  first-on _ _ (c .before .before .before .before .loop .inv .1)
+      (rw (← c .before .before .record-at .ensures, ← c .before .fits2 .ensures) (c .if1 .left)),
+)
 
 returns-2 : tie.Need-returns-2 Inv-loop μ-loop
 unfolding check-block

@@ -1,11 +1,13 @@
--- `run::block::flags_in` meets its contract: each turn fills the next place of the array from the next record, up to the array's end if n goes past it.
+-- `run::block::flags_in` meets its contract: each turn fills the next place of the array from the next record, up to
+-- the array's end if n goes past it.
 use mathlib.Core.Path.{_≡_, sym, _∙_}
 use mathlib.Core.Bool.{false}
 use lib.Dec.{eqb}
 use Prim.Native.Nat.{_+_, _-_, min, _≤_}
 use native.Mathlib.Omega.{arith}
 use borrow.Author.Needs.{needs}
-use Rattle.run.specs.Record.{recordAt}
+use Rattle.run.specs.Run.{stations}
+use Rattle.run.specs.Record.{record-at}
 use Rattle.run.specs.Filled.{filled}
 use Rattle.run.specs.Block.{flags-in}
 use Rattle.run.proofs.Filled.{filled-none, filled-more, filled-min}
@@ -13,19 +15,24 @@ use Rattle.run.proofs.block.flags_in.Statement.{statement}
 use Rattle.run.proofs.block.flags_in.Tie as tie
 
 abbrev Inv-loop : tie.InvT-loop
-Inv-loop bytes start n kind flags₀ last i₀ flags i = (i ≤ last) × (flags ≡ filled 32 i (λ j. eqb (recordAt bytes (start + j) .kind) kind) false)
+Inv-loop bytes start n kind flags₀ last i₀ flags i = (i ≤ last)
+    × (flags ≡ filled stations i (λ j. eqb (record-at bytes (start + j) .kind) kind) false)
 
 abbrev μ-loop : tie.MeasureT-loop
 μ-loop bytes start n kind flags₀ last i₀ flags i = last - i
 
 loop-again : tie.Need-loop-again Inv-loop μ-loop
-loop-again c = (omega arith, rw (c .before .before .before .loop .inv .1, c .before .record-at .ensures) (filled-more 32 _ _ false (omega arith)))
+loop-again c = (
+  omega arith,
+  rw (c .before .before .before .loop .inv .1, c .before .record-at .ensures)
+      (filled-more stations _ _ false (omega arith)),
+)
 
 returns : tie.Need-returns Inv-loop μ-loop
 unfolding flags-in
 returns c =
-    let done : c .before .loop .i ≡ min (c .before .before .before .before .args .n) 32 = omega arith in
-    (rw done at (c .before .loop .inv .1)) ∙ filled-min 32 _ _ false
+    let done : c .before .loop .i ≡ min (c .before .before .before .before .args .n) stations = omega arith in
+    (rw done at (c .before .loop .inv .1)) ∙ filled-min stations _ _ false
 
 pub flags-in-spec : {M : Type 1} → statement M
 flags-in-spec =
@@ -34,7 +41,7 @@ flags-in-spec =
     Inv-loop
     μ-loop
     (λ c κs. search needs)
-    (λ c. (omega arith, sym (filled-none 32 _ false)))
+    (λ c. (omega arith, sym (filled-none stations _ false)))
     (λ c. search needs)
     (λ c κs. search needs)
     (λ c. search needs)

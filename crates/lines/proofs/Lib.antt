@@ -1,0 +1,2 @@
+-- Laws about the definitions of specs/.
+pub mod Putting  -- texts put one after the other, and how long they are
