@@ -1,5 +1,5 @@
--- One image byte by byte, of a run under U whose numbers all differ: the kinds of rule 2.4 and the places of rules 6.1
--- and 6.2 as numbers, so that no exchange of two of them goes unseen. The checker computes it.
+-- One image byte by byte, of a run under U whose stations hold different numbers: the kinds of rule 2.4 and the places
+-- of rules 6.1 and 6.2 as numbers, so that no exchange of two of them goes unseen. The checker computes it.
 use mathlib.Core.Path.{_≡_, refl}
 use mathlib.Core.Bool.{true, false}
 use mathlib.Core.List.{List, [], _∷_}

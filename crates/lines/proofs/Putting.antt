@@ -8,17 +8,18 @@ use native.Mathlib.Numerals.{add-one}
 use native.Mathlib.Omega.{arith}
 use borrow.Author.Tests.{lt-ltb, le-ltb}
 use lib.Dec.{ltb}
-use lib.ListN.{length, take, set, getD, length-append}
-use lib.Seq.{take-suc, take-suc-set}
+use lib.ListN.{length, take, drop, set, getD, length-append}
+use lib.Seq.{take-suc, take-suc-set, drop-set-lt, drop-drop}
 use Rattle.lines.specs.Text.{Put, ten, digit, spelled, number, entry, entries}
 
 -- nothing is put
 pub put-nothing : (b : List ℕ) (at : ℕ) → Put b at [] at b
-put-nothing b at = record { ends = omega arith; stands = sym (append-nil (take at b)) }
+put-nothing b at = record { ends = omega arith; stands = sym (append-nil (take at b)); behind = refl }
 
 -- one byte is put
 pub put-one : (b : List ℕ) (at v : ℕ) → at < length b → Put b at (v ∷ []) (at + 1) (set b at v)
-put-one b at v h = record { ends = refl; stands = rw (add-one, take-suc-set) }
+put-one b at v h =
+    record { ends = refl; stands = rw (add-one, take-suc-set); behind = drop-set-lt (at + 1) b at v (omega arith) }
 
 module _ {b : List ℕ} {at m : ℕ} {b′ : List ℕ} {e : ℕ} {b″ : List ℕ} where
   -- a text, and another behind it
@@ -27,7 +28,11 @@ module _ {b : List ℕ} {at m : ℕ} {b′ : List ℕ} {e : ℕ} {b″ : List �
       record {
         ends = omega (arith, p .ends, q .ends, length-append s t);
         stands = q .stands ∙ ap (λ (l : List ℕ). l ++ t) (p .stands) ∙ append-assoc (take at b) s t;
+        behind = q .behind ∙ further b′ ∙ ap (drop (length t)) (p .behind) ∙ sym (further b);
       }
+    where
+      further : (l : List ℕ) → drop e l ≡ drop (length t) (drop m l)
+      further l = ap (λ (k : ℕ). drop k l) (q .ends) ∙ sym (drop-drop (length t) m l)
 
   -- an entry: a space, and the number where it is there, else the sign
   pub put-there : (there : Bool) (x sign : ℕ) → there ≡ true → Put b at (code " " ∷ []) m b′ → Put b′ m (number x) e b″

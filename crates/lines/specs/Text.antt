@@ -6,7 +6,7 @@ use Prim.Native.Nat.{ℕ, zero, suc, _+_, _*_, _/_, _%_}
 use Prim.Native.Char.{code}
 use Prim.Native.String.{String, [] as no-text, _∷_ as _then-text_}
 use lib.Dec.{leb, ltb}
-use lib.ListN.{length, take, getD, replicate}
+use lib.ListN.{length, take, drop, getD, replicate}
 use Rattle.limits.specs.declared.Setup.{Setup}
 use Rattle.limits.specs.Setup.{is-U}
 use Rattle.run.specs.declared.Run.{Run}
@@ -14,10 +14,11 @@ use Rattle.run.specs.declared.Reply.{Reply}
 use Rattle.run.specs.Reply.{number-of, place-of}
 use Rattle.run.specs.Run.{stations}
 
--- the text stands in a buffer from `at` up to `end`, and what was before it is as it was
+-- the text stands in a buffer from `at` up to `end`, and what is before and behind it is as it was
 pub record Put (before : List ℕ) (at : ℕ) (text : List ℕ) (end : ℕ) (after : List ℕ) : Type 0 where
   pub ends : end ≡ at + length text
   pub stands : take end after ≡ take at before ++ text
+  pub behind : drop end after ≡ drop end before
 
 -- ---- words and numbers
 -- the codes of a text's characters: for ASCII, its bytes
