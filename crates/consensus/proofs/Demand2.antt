@@ -1,7 +1,7 @@
--- The step meets demands 1 and 2: its checks, taken one by one, are the well formed records and the paper's predicates,
--- and its answer is made of the paper's stations, firings and sets.
+-- This judge meets demand 2: a round is accepted in one case of the relation of replies, and the answer is then made of
+-- the paper's stations, firings and sets.
 use mathlib.Core.Path.{_≡_, refl, ap, sym, _∙_, subst}
-use mathlib.Core.Bool.{Bool, true, false, cond, false≢true}
+use mathlib.Core.Bool.{Bool, true, false, false≢true}
 use mathlib.Core.List.{List}
 use mathlib.Core.Option.{Option, none, some}
 use mathlib.Core.Logic.{_↔_}
@@ -9,46 +9,40 @@ use Prim.Native.Nat.{ℕ, _/_, _%_, _^_, _≤_, _<_}
 use native.Mathlib.Numerals.{add-one}
 use native.Mathlib.Omega.{arith}
 use lib.ListN.{length, getD}
-use lib.Dec.{eqb, ltb}
-use borrow.Author.Tests.{eqb-true, eq-eqb, lt-ltb}
-use Rattle.paper.specs.Stations.{All, one, size}
+use Rattle.paper.specs.Stations.{one}
 use Rattle.paper.specs.Heard as heard
 use Rattle.paper.specs.Setup as setup
 use Rattle.paper.specs.Rules as rules
 use Rattle.paper.specs.Run as paper
 use Rattle.paper.proofs.Pins.{fired-iff}
-use Rattle.paper.proofs.Setups.{A-not-U}
 use Rattle.run.specs.declared.Run.{Run}
 use Rattle.run.specs.declared.Reply.{Reply}
-use Rattle.run.specs.declared.Reply.the-variants.{Accepted, Length, Altered, Unsafe, Full, Rules}
-use Rattle.run.specs.Reply.{is-accepted, or-refuse}
-use Rattle.limits.specs.Setup.{is-U, setup-of}
-use Rattle.run.specs.Run.{stations, most-rounds, sound}
-use Rattle.run.proofs.Replies.{then-accepted, accepted-then, or-refuse-accepted, accepted-or-refuse}
+use Rattle.run.specs.declared.Reply.the-variants.{Accepted}
+use Rattle.run.specs.Keeps.{Keeps}
+use Rattle.run.specs.Machine.{Machine}
+use Rattle.run.specs.Opening.{check-opening, read-opening}
+use Rattle.run.specs.Opens.{Acceptable, AtStarts}
+use Rattle.run.specs.Reply.{is-accepted}
+use Rattle.run.specs.Run.{stations}
+use Rattle.run.proofs.Filled.{length-filled}
+use Rattle.run.proofs.Machines.{opened-machine}
+use Rattle.run.proofs.Openings.{opening-accepted, opened-reply, opened-at-starts, opened-sound}
+use Rattle.run.proofs.Replies.{accepted-is}
 use Rattle.run.proofs.Sound.{sound-iff}
-use Rattle.round.specs.Reading.{in-turn, votes-next, round-length, check-cells}
+use Rattle.image.specs.Image.{image-length, saved, loaded}
+use Rattle.image.proofs.Images.{saving-accepted}
+use Rattle.image.proofs.Saved.{save-load}
 use Rattle.round.specs.Bridge.{heard-in, station, kind-next, sent-next, paper-setup}
-use Rattle.round.proofs.Readings.{cells-accepted}
-use Rattle.round.proofs.Turns.{turn-accepted}
-use Rattle.hearing.specs.Survey.{ho-sets, sho-sets}
+use Rattle.round.specs.Reading.{check-reading}
+use Rattle.round.proofs.Readings.{few-stations, reading-accepted}
+use Rattle.hearing.specs.Masks.{mask}
+use Rattle.hearing.specs.Survey.{ho-sets, sho-sets, survey-of}
 use Rattle.hearing.specs.Tally.{is-there, value-or-0}
 use Rattle.judge.specs.declared.Stepped.{Stepped}
-use Rattle.judge.specs.Step.{
-  check-altered,
-  check-safe,
-  check-step,
-  stepped,
-  unstepped,
-  step-of,
-  station-after,
-  fired-at,
-}
+use Rattle.judge.specs.Step.{stepped, step-of, station-after, fired-at}
+use Rattle.judge.proofs.Machines.{machine-after}
 use Rattle.judge.proofs.Stations.{station-next}
 use Rattle.judge.proofs.Steps.{
-  sets-on,
-  cells-on,
-  length-on,
-  room-on,
   reply-is,
   step-checked,
   step-accepted,
@@ -59,10 +53,16 @@ use Rattle.judge.proofs.Steps.{
   clock-next,
   keeps-next,
 }
-use Rattle.consensus.specs.Demand2.{round-by-paper, WellFormed, Follows, Leaves, Demand2}
+use Rattle.consensus.specs.Judge.{ours}
+use Rattle.consensus.specs.Round.{round-by-paper, Ready, WellFormed}
+use Rattle.consensus.specs.RoundReplies.{StepReply}
+use Rattle.consensus.specs.Demand2.{SetsOf, Follows, Demand2}
+use Rattle.consensus.proofs.RoundReplies.{kind-is, sent-is, step-replies, accepted-case}
+use Rattle.consensus.proofs.Spelled.{opening-spelled, opening-written, image-loaded, image-saved}
+use Rattle.consensus.proofs.Spelled.{round-read, round-written-as}
+use Rattle.consensus.proofs.Tape.{tape-same}
 use Rattle.consensus.proofs.Outside.{
   filled-everywhere,
-  replicate-everywhere,
   masks-everywhere,
   lost-fired,
   no-receiver,
@@ -80,12 +80,6 @@ nothing-there : (o : Option ℕ) → is-there o ≡ false → value-or-0 o ≡ 0
 nothing-there none e = refl
 nothing-there (some w) e = absurd (false≢true (sym e))
 
--- a check that is made, and a predicate that is asked, under U alone
-under-U : (b : Bool) (r : Reply) (P : Type 0) → (r ≡ Accepted ↔ P)
-    → cond b r Accepted ≡ Accepted ↔ (cond b setup.U setup.A ≡ setup.U → P)
-under-U true r P iff = (λ e u. iff .0 e, λ all. iff .1 (all refl))
-under-U false r P iff = (λ e u. absurd (A-not-U u), λ all. refl)
-
 module _ (run : Run) (bs : List ℕ) where
   abbrev n : ℕ
   n = run .setup .n
@@ -99,93 +93,52 @@ module _ (run : Run) (bs : List ℕ) where
   abbrev row : ℕ → heard.Row
   row = heard-in n bs
 
-  -- ---- the round that the run waits for is the paper's next: the code counts it by + 1, the paper by suc
-  kind-is : kind-next run ≡ paper.kind S turn
-  unfolding kind-next paper.kind round-by-paper setup-of
-  kind-is = ap (rules.kind-of (S .algorithm)) (add-one (run .clock))
-
-  sent-is : sent-next run ≡ paper.sent S turn
-  unfolding sent-next paper.sent round-by-paper
-  sent-is = ap {B = ℕ → heard.Message} (λ (k : rules.Kind). λ (q : ℕ). rules.sends k (station run q)) kind-is
-
+  -- the code counts the next round by + 1, the paper by suc
   after-is : (p : ℕ) → station-after run bs p ≡ turn .after p
   unfolding station-after round-by-paper
   after-is p = ap (λ (r : ℕ). rules.after S (run .default) r (station run p) (row p)) (add-one (run .clock))
 
-  -- ---- the checks are the predicates: a test of each station, in turn, by what stations ought to send
-  tests-iff : (test : (ℕ → heard.Message) → ℕ → Bool) (r : ℕ → Reply) → ((p : ℕ) → is-accepted (r p) ≡ false)
-      → in-turn n (λ p. or-refuse (test (sent-next run) p) (r p)) ≡ Accepted
-      ↔ All n (λ p. test (paper.sent S turn) p ≡ true)
-  tests-iff test r refuses =
-      let Passes : (ℕ → heard.Message) → Type 0 = λ sent. All n (λ p. test sent p ≡ true) in (
-        λ e.
-            subst Passes sent-is
-            (λ p h. or-refuse-accepted (test (sent-next run) p) (r p) (refuses p) (turn-accepted _ n .0 e p h)),
-        λ all.
-            turn-accepted _ n .1
-            (λ p h. accepted-or-refuse (test (sent-next run) p) (r p) (subst Passes (sym sent-is) all p h)),
-      )
+  -- ---- when a round is accepted
+  said : StepReply run bs (step-of run bs .reply)
+  said = subst (StepReply run bs) (sym (reply-is run bs)) (step-replies run bs .holds)
 
-  few-iff : check-altered run bs ≡ Accepted ↔ paper.P-alpha S turn
-  unfolding check-altered paper.P-alpha round-by-paper setup-of
-  few-iff =
-      tests-iff (λ sent p. setup.tolerated S (size n (heard.AHO (row p) sent))) Altered (λ p. refl)
-
-  safe-iff : check-safe run bs ≡ Accepted ↔ (S .algorithm ≡ setup.U → paper.P-safe S turn)
-  unfolding check-safe paper.P-safe round-by-paper setup-of
-  safe-iff =
-      let each = tests-iff (λ sent p. setup.passes-bound S (size n (heard.SHO (row p) sent))) Unsafe (λ p. refl) in
-      under-U (is-U (run .setup)) _ _ each
-
-  Wanted : Type 0
-  Wanted = WellFormed run bs × paper.Safe S turn
-
-  -- the checks that are one test each
-  abbrev is-sound : Reply
-  is-sound = or-refuse (sound run) (Rules 0)
-
-  abbrev has-room : Reply
-  has-room = or-refuse (ltb (run .clock) most-rounds) Full
-
-  abbrev is-whole : Reply
-  is-whole = or-refuse (eqb (length bs) (round-length n)) Length
-
-  taken-apart : check-step run bs ≡ Accepted → Wanted
-  unfolding check-step Wanted
-  taken-apart e =
-      let (first, on-first) = then-accepted is-sound (room-on run bs) e in
-      let (second, on-second) = then-accepted has-room (length-on run bs) on-first in
-      let (third, on-third) = then-accepted is-whole (cells-on run bs) on-second in
-      let (fourth, on-fourth) = then-accepted (check-cells (votes-next run) n bs) (sets-on run bs) on-third in
-      let (fifth, sixth) = then-accepted (check-altered run bs) (check-safe run bs) on-fourth in
-      let spelled = cells-accepted (votes-next run) n bs .0 fourth in (
-        record {
-          long = eqb-true (length bs) (round-length n) (or-refuse-accepted _ Length refl third);
-          fits = λ p q hp hq. spelled p q hp hq .0;
-          queries = λ p q hp hq. spelled p q hp hq .1;
-        },
-        record { few-altered = few-iff .0 fifth; enough-safe = safe-iff .0 sixth },
-      )
-
-  put-together : sound run ≡ true → run .clock < most-rounds → Wanted → check-step run bs ≡ Accepted
-  unfolding check-step Wanted
-  put-together ok room (formed, keeps) =
-      let second = accepted-or-refuse _ Full (lt-ltb (run .clock) most-rounds room) in
-      let third = accepted-or-refuse _ Length (eq-eqb (length bs) (round-length n) (formed .long)) in
-      let fourth =
-      cells-accepted (votes-next run) n bs .1 (λ p q hp hq. (formed .fits p q hp hq, formed .queries p q hp hq)) in
-      accepted-then is-sound (room-on run bs) (accepted-or-refuse (sound run) (Rules 0) ok)
-      (accepted-then has-room (length-on run bs) second
-      (accepted-then is-whole (cells-on run bs) third
-      (accepted-then (check-cells (votes-next run) n bs) (sets-on run bs) fourth
-      (accepted-then (check-altered run bs) (check-safe run bs)
-      (few-iff .1 (keeps .few-altered)) (safe-iff .1 (keeps .enough-safe))))))
-
-  step-accepts : sound run ≡ true → run .clock < most-rounds → (is-accepted (step-of run bs .reply) ≡ true) ↔ Wanted
-  step-accepts ok room = (
-    λ e. taken-apart (step-checked run bs e),
-    λ want. ap is-accepted (reply-is run bs ∙ put-together ok room want),
+  step-accepts : Ready run
+      → (is-accepted (step-of run bs .reply) ≡ true) ↔ (WellFormed run bs × paper.Safe S turn)
+  step-accepts ready = (
+    λ e.
+        let (ready, formed, safe) = accepted-case (step-of run bs .reply) said (accepted-is (step-of run bs .reply) e) in
+        (formed, safe),
+    λ want.
+        ap is-accepted
+        (reply-is run bs ∙ sym (step-replies run bs .alone Accepted (StepReply.accepted ready (want .0) (want .1)))),
   )
+
+  -- ---- the sets of a round
+  sets-of-round : n ≤ stations → SetsOf run bs (ho-sets n bs) (sho-sets run n bs)
+  unfolding ho-sets sho-sets round-by-paper
+  sets-of-round few =
+      record {
+        heard-of =
+            masks-everywhere n (λ r. heard.HO (row r)) few
+            (λ r h j. lost-HO (row r) j (no-receiver n bs r h j)) (λ r j h. lost-HO (row r) j (no-sender n bs r j h));
+        safely =
+            λ p q.
+            masks-everywhere n (λ r. heard.SHO (row r) (sent-next run)) few
+            (λ r h j. lost-SHO (row r) j (no-receiver n bs r h j) (sent-next run))
+            (λ r j h. lost-SHO (row r) j (no-sender n bs r j h) (sent-next run)) p q
+            ∙ ap (λ (sent : ℕ → heard.Message). one (heard.SHO (row p) sent q)) (sent-is run bs);
+        places = (
+          length-filled stations n (λ p. mask n (heard.HO (row p))) 0,
+          length-filled stations n (λ p. mask n (heard.SHO (row p) (sent-next run))) 0,
+        );
+      }
+
+  survey-sets : is-accepted (survey-of run bs .reply) ≡ true
+      → SetsOf run bs (survey-of run bs .ho) (survey-of run bs .sho)
+  unfolding survey-of
+  survey-sets e =
+      let good = reading-accepted run bs .0 (accepted-is (check-reading run bs) e) .0 in
+      rw e (sets-of-round (few-stations run good))
 
   -- ---- an accepted round
   module _ (e : is-accepted (step-of run bs .reply) ≡ true) where
@@ -217,21 +170,19 @@ module _ (run : Run) (bs : List ℕ) where
         ∙ filled-everywhere n (λ q. value-or-0 (fired-at run bs q)) 0 few-enough
         (λ q h. ap value-or-0 (unfired-above q h)) p
 
-    ho-bit : (p q : ℕ) → getD (step-of run bs .ho) p 0 / 2 ^ q % 2 ≡ one (heard.HO (row p) q)
-    unfolding stepped ho-sets
-    ho-bit p q =
-        ap (λ (s : Stepped). getD (s .ho) p 0 / 2 ^ q % 2) answer-is
-        ∙ masks-everywhere n (λ r. heard.HO (row r)) few-enough
-        (λ r h j. lost-HO (row r) j (no-receiver n bs r h j)) (λ r j h. lost-HO (row r) j (no-sender n bs r j h)) p q
+    arrays-whole : (length (step-of run bs .fires) ≡ stations) × (length (step-of run bs .fired) ≡ stations)
+    unfolding stepped
+    arrays-whole = (
+      ap (λ (s : Stepped). length (s .fires)) answer-is
+          ∙ length-filled stations n (λ p. is-there (fired-at run bs p)) false,
+      ap (λ (s : Stepped). length (s .fired)) answer-is
+          ∙ length-filled stations n (λ p. value-or-0 (fired-at run bs p)) 0,
+    )
 
-    sho-bit : (p q : ℕ) → getD (step-of run bs .sho) p 0 / 2 ^ q % 2 ≡ one (heard.SHO (row p) (paper.sent S turn) q)
-    unfolding stepped sho-sets
-    sho-bit p q =
-        ap (λ (s : Stepped). getD (s .sho) p 0 / 2 ^ q % 2) answer-is
-        ∙ masks-everywhere n (λ r. heard.SHO (row r) (sent-next run)) few-enough
-        (λ r h j. lost-SHO (row r) j (no-receiver n bs r h j) (sent-next run))
-        (λ r j h. lost-SHO (row r) j (no-sender n bs r j h) (sent-next run)) p q
-        ∙ ap (λ (sent : ℕ → heard.Message). one (heard.SHO (row p) sent q)) sent-is
+    sets-as : SetsOf run bs (step-of run bs .ho) (step-of run bs .sho)
+    unfolding stepped
+    sets-as =
+        subst (λ (s : Stepped). SetsOf run bs (s .ho) (s .sho)) (sym answer-is) (sets-of-round few-enough)
 
     -- what the law about the one value that fires asks of the setup
     one-fires : setup.acceptable S ≡ true
@@ -240,7 +191,7 @@ module _ (run : Run) (bs : List ℕ) where
     fired-names : (p v : ℕ) → (fired-at run bs p ≡ some v) ↔ paper.FiresAt S turn p v
     unfolding fired-at paper.FiresAt round-by-paper
     fired-names p v =
-        subst (λ (k : rules.Kind). (fired-at run bs p ≡ some v) ↔ rules.Fires S k (row p) v) kind-is
+        subst (λ (k : rules.Kind). (fired-at run bs p ≡ some v) ↔ rules.Fires S k (row p) v) (kind-is run bs)
         (fired-iff S one-fires (kind-next run) (row p) v)
 
     fires-iff-rule : (p v : ℕ)
@@ -262,40 +213,56 @@ module _ (run : Run) (bs : List ℕ) where
           setup = setup-same run bs ok;
           default = default-same run bs ok;
           clock = clock-next run bs ok;
-          sound-again = sound-iff (step-of run bs .run) .1 (keeps-next run bs ok);
+          keeps-still = keeps-next run bs ok;
+          machine-still =
+              λ machine bytes.
+              subst Machine (sym (ok .next)) (machine-after run bs machine (ok .room) bytes);
           fires = fires-iff-rule;
           unfired = λ p e. fired-value p ∙ nothing-there (fired-at run bs p) (sym (fires-at p) ∙ e);
-          ho = ho-bit;
-          sho = sho-bit;
+          places = arrays-whole;
+          sets = sets-as;
         }
 
--- ---- a refused round: the run and arrays of nothing
-step-leaves : (run : Run) (bs : List ℕ) → is-accepted (step-of run bs .reply) ≡ false → Leaves run (step-of run bs)
-unfolding step-of stepped
-step-leaves run bs = go (is-accepted (check-step run bs))
-  where
-    nothing : (r : Reply) → Leaves run (unstepped r run)
-    nothing r =
-        record {
-          same-run = refl;
-          fires = replicate-everywhere stations false;
-          fired = replicate-everywhere stations 0;
-          ho = replicate-everywhere stations 0;
-          sho = replicate-everywhere stations 0;
-        }
+-- ---- openings
+module _ (bs : List ℕ) where
+  opening-checked : is-accepted (read-opening bs .reply) ≡ true → check-opening bs ≡ Accepted
+  opening-checked e = sym (opened-reply bs) ∙ accepted-is (read-opening bs .reply) e
 
-    go : (b : Bool) → is-accepted (cond b (stepped run bs) (unstepped (check-step run bs) run) .reply) ≡ false
-        → Leaves run (cond b (stepped run bs) (unstepped (check-step run bs) run))
-    go true e = absurd (false≢true (sym e))
-    go false e = nothing (check-step run bs)
+  opens : (is-accepted (read-opening bs .reply) ≡ true) ↔ Acceptable bs
+  opens = (
+    λ e. opening-accepted bs .0 (opening-checked e),
+    λ a. ap is-accepted (opened-reply bs ∙ opening-accepted bs .1 a),
+  )
 
--- demands 1 and 2, of the step
-pub demand-2 : Demand2 step-of
-unfolding Wanted
+  at-starts : is-accepted (read-opening bs .reply) ≡ true
+      → AtStarts bs (read-opening bs .run) × Keeps (read-opening bs .run)
+  at-starts e =
+      let ok = opening-checked e in
+      (opened-at-starts bs ok, sound-iff (read-opening bs .run) .0 (opened-sound bs ok))
+
+-- ---- a run, saved and loaded
+saves : (run : Run) (buffer : List ℕ) → Keeps run → Machine run → length buffer ≡ image-length (run .setup .n)
+    → loaded (saved run buffer) ≡ record { reply = Accepted; run = run }
+saves run buffer keeps machine long =
+    save-load run buffer machine (saving-accepted run (length buffer) .1 (sound-iff run .1 keeps, long))
+
+-- demand 2, of this judge
+pub demand-2 : Demand2 ours
+unfolding ours
 demand-2 =
     record {
+      opens = opens;
+      at-starts = at-starts;
+      opening-of = λ bs bytes e. (opening-spelled bs bytes e, opened-machine bs bytes);
       accepts = step-accepts;
       follows = step-follows;
-      leaves = step-leaves;
-      says = reply-is;
+      round-of = round-read;
+      surveys = survey-sets;
+      image-of = image-loaded;
+      writes-opening =
+          λ s d starts buffer fits words e. opening-written s d starts buffer fits words (accepted-is _ e);
+      writes-round = λ run m buffer holds e. round-written-as run m buffer holds (accepted-is _ e);
+      writes-image = λ run buffer machine e. image-saved run buffer machine (accepted-is _ e);
+      tapes = tape-same;
+      saves = saves;
     }

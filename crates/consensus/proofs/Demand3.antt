@@ -27,10 +27,11 @@ use Rattle.run.proofs.Built.{built-below}
 use Rattle.run.proofs.Openings.{opened, opened-sound}
 use Rattle.round.specs.Bridge.{paper-setup, paper-station, station}
 use Rattle.consensus.specs.Offered.{Offer, accepted, run-after-all}
-use Rattle.consensus.specs.Demand3.{InHand, Demand3}
+use Rattle.consensus.specs.Demand3.{InHand, Demand3, Demand3Holds}
 use Rattle.consensus.proofs.Taken.{all-on, all-left}
 use Rattle.consensus.proofs.Latest.{lock-left, decided-left, kept-left}
 use Rattle.consensus.proofs.Lawful.{follows}
+use Rattle.consensus.proofs.OpeningReplies.{opening-replies}
 
 -- rounds that follow from some states follow from the same states told otherwise
 rounds-from : (S : setup.Setup) (d k : ℕ) (s s′ : paper.States) (ts : List paper.Turn) → All (S .n) (λ p. s p ≡ s′ p)
@@ -79,6 +80,23 @@ module _ (s : Setup) (d : ℕ) (estimates : List ℕ) (keeps : Keeps (run-from s
         safe = on .1;
       }
 
+  -- the decision of a station is that of a firing
+  held : (p v r : ℕ) → p < run .setup .n → station (run-after-all run offers) p .decision ≡ rules.decided v r
+      → (t : paper.Turn) × safety.FirstFiring (paper-setup run) ts p v t × (t .number ≡ r)
+  unfolding run-from paper.Run paper.opened setup-of
+  held p v r h e =
+      kept-left (paper-setup run) d 0 (paper.opened (starts run)) (station run) ts (lawful .rounds)
+      (kept (paper-setup run) d (starts run) ts (lawful .setup) (lawful .rounds)) p v r h
+      (ap (λ (x : rules.Station). x .decision) (stands s d estimates p (omega (arith, keeps .setup .n-to)) h))
+      (ap (λ (x : paper.States). x p .decision) (sym (all-left offers run)) ∙ e)
+
+  one-start : (v : ℕ) → All (run .setup .n) (λ p. starts run p ≡ v) → (p w r : ℕ) → p < run .setup .n
+      → station (run-after-all run offers) p .decision ≡ rules.decided w r → w ≡ v
+  unfolding safety.Integrity setup-of run-from
+  one-start v all p w r h e =
+      let (t, first, _) = held p w r h e in
+      integrity (paper-setup run) (run .default) (starts run) ts lawful v all t p w (first .in-run) h (first .fires)
+
   -- what holds after the last accepted round holds of the run in hand
   in-hand : InHand run offers
   unfolding run-from paper.Run paper.opened setup-of
@@ -89,7 +107,7 @@ module _ (s : Setup) (d : ℕ) (estimates : List ℕ) (keeps : Keeps (run-from s
       let rounds = lawful .rounds in
       let from = paper.opened (starts run) in
       record {
-        sound-still = sound-iff (run-after-all run offers) .1 (on .keeps);
+        keeps-still = on .keeps;
         setup = on .setup;
         default = on .default;
         clock = omega (arith, on .clock);
@@ -98,16 +116,13 @@ module _ (s : Setup) (d : ℕ) (estimates : List ℕ) (keeps : Keeps (run-from s
             λ t p v i h f.
             subst (λ (x : paper.States). safety.Locked S x v) left
             (lock-left S d 0 from (station run) ts rounds (lock S d (starts run) ts lawful) t p v i h f);
-        kept =
-            λ p v r h e.
-            kept-left S d 0 from (station run) ts rounds (kept S d (starts run) ts (lawful .setup) rounds) p v r h
-            (ap (λ (x : rules.Station). x .decision) (stands s d estimates p (omega (arith, keeps .setup .n-to)) h))
-            (ap (λ (x : paper.States). x p .decision) left ∙ e);
+        kept = held;
         decides =
             λ t p v i h f.
-            subst (λ (x : paper.States). ¬ (x p .decision ≡ rules.undecided)) left
-            (decided-left S d 0 from (station run) ts rounds (decides S d (starts run) ts (lawful .setup) rounds) t p v
-            i h f);
+            let found = decided-left S d 0 from (station run) ts rounds
+            (decides S d (starts run) ts (lawful .setup) rounds) t p v i h f in
+            (found .0, found .1, found .2, sym (ap (λ (x : paper.States). x p .decision) left) ∙ found .3);
+        integrity = one-start;
       }
 
   pub demand-3-of : Demand3 run offers
@@ -122,11 +137,14 @@ module _ (s : Setup) (d : ℕ) (estimates : List ℕ) (keeps : Keeps (run-from s
       }
 
 -- demand 3: nothing is asked but that these bytes are accepted as an opening
-pub demand-3 : (bs : List ℕ) → check-opening bs ≡ Accepted → (offers : List Offer)
+pub demand-3-checked : (bs : List ℕ) → check-opening bs ≡ Accepted → (offers : List Offer)
     → Demand3 (read-opening bs .run) offers
-demand-3 bs ok offers =
+demand-3-checked bs ok offers =
     let at : read-opening bs .run ≡ run-from (setup-in bs) (default-in bs) (starts-in bs) = ap (λ (o : Opened). o .run)
     (opened bs ok) in
     let keeps : Keeps (read-opening bs .run) = sound-iff (read-opening bs .run) .0 (opened-sound bs ok) in
     subst (λ (run : Run). Demand3 run offers) (sym at)
     (demand-3-of (setup-in bs) (default-in bs) (starts-in bs) (subst Keeps at keeps) offers)
+
+pub demand-3 : Demand3Holds
+demand-3 bs accepted offers = demand-3-checked bs (sym (opening-replies bs .alone Accepted accepted)) offers

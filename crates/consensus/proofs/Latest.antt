@@ -68,13 +68,13 @@ module _ (S : Setup) (d k : ℕ) (s : States) (s₀ : States) where
 
   pub decided-left : (ts : List Turn) → Rounds S d k s ts → Decides S ts → (t : Turn) (p v : ℕ) → t among ts → p < S .n
       → FiresAt S t p v
-      → ¬ (left-by s₀ ts p .decision ≡ undecided)
+      → (w : ℕ) × (t₀ : Turn) × FirstFiring S ts p w t₀ × (left-by s₀ ts p .decision ≡ decided w (t₀ .number))
   unfolding Decides
   decided-left [] rounds done t p v i h f = absurd (List·Memᴰ·not-nil i)
   decided-left (x ∷ ts) rounds done t p v i h f =
       let l = last-of S d k s x ts rounds s₀ in
-      subst (λ (z : States). ¬ (z p .decision ≡ undecided)) (sym (l .left)) (done t (l .turn) p v i (l .in-run)
-      (l .latest t i) h f)
+      let found = done t (l .turn) p v i (l .in-run) (l .latest t i) h f in
+      (found .0, found .1, found .2, ap (λ (z : States). z p .decision) (l .left) ∙ found .3)
 
   pub kept-left : (ts : List Turn) → Rounds S d k s ts → Kept S ts → (p v r : ℕ) → p < S .n
       → (s₀ p .decision ≡ undecided)

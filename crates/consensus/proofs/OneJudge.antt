@@ -1,4 +1,4 @@
--- Demand 2 leaves one answer: the reply is fixed; a run that keeps the rules can be told from the paper's stations,
+-- Demands 1 and 2 leave one answer: the relation of replies fixes the reply; a run that keeps the rules can be told from the paper's stations,
 -- since what stands beside "?" and undecided is 0; a firing is the paper's or none; and a number is told by its bits.
 use mathlib.Core.Path.{_≡_, refl, ap, sym, _∙_}
 use mathlib.Core.Bool.{Bool, true, false, false≢true}
@@ -18,11 +18,17 @@ use Rattle.run.specs.declared.Station.{Station}
 use Rattle.run.specs.Keeps.{Keeps, StationKeeps}
 use Rattle.run.specs.Reply.{is-accepted}
 use Rattle.run.specs.Run.{stations, station-at}
-use Rattle.run.proofs.Sound.{sound-iff}
 use Rattle.round.specs.Bridge.{paper-setup, paper-station, entries, station}
 use Rattle.judge.specs.declared.Stepped.{Stepped}
-use Rattle.consensus.specs.Demand2.{Judge, round-by-paper, Follows, Leaves, Demand2}
+use Rattle.consensus.specs.Judge.{Judge}
+use Rattle.consensus.specs.Round.{round-by-paper}
+use Rattle.consensus.specs.Demand1.{Leaves, Demand1}
+use Rattle.consensus.specs.Demand2.{Follows, Demand2}
+use Rattle.judge.specs.Step.{check-step}
+use Rattle.consensus.specs.OneReply.{Only}
+use Rattle.consensus.specs.RoundReplies.{StepReply}
 use Rattle.consensus.specs.SameAnswer.{SameAnswer}
+use Rattle.consensus.proofs.RoundReplies.{step-replies}
 
 -- a number is told by its bits: the lowest is the remainder, and the others are those of the half
 same-bits : (k a b : ℕ) → a ≤ k → b ≤ k → ((q : ℕ) → a / 2 ^ q % 2 ≡ b / 2 ^ q % 2) → a ≡ b
@@ -35,7 +41,7 @@ same-bits (suc k) a b ha hb same =
     ∙ ap (λ (j : ℕ). b / 2 ^ j % 2) (omega arith) ∙ ap (λ (m : ℕ). m % 2) (sym (shr-shr b 1 q))) in
     omega arith
 
-bits-tell : (a b : ℕ) → ((q : ℕ) → a / 2 ^ q % 2 ≡ b / 2 ^ q % 2) → a ≡ b
+pub bits-tell : (a b : ℕ) → ((q : ℕ) → a / 2 ^ q % 2 ≡ b / 2 ^ q % 2) → a ≡ b
 bits-tell a b = same-bits (a + b) a b (omega arith) (omega arith)
 
 -- what stands in the arrays, from the paper's station
@@ -80,15 +86,15 @@ both-follow run bs a b reply fa fb =
       clock = fa .clock ∙ sym (fb .clock);
       each-station =
           same-entries (a .run) (b .run)
-          (sound-iff (a .run) .0 (fa .sound-again)) (sound-iff (b .run) .0 (fb .sound-again))
+          (fa .keeps-still) (fb .keeps-still)
           (ap (λ (s : Setup). s .n) (fa .setup ∙ sym (fb .setup)))
           (λ p h.
           let below : p < run .setup .n = omega (arith, h, ap (λ (s : Setup). s .n) (fa .setup)) in
           fa .each-station p below ∙ sym (fb .each-station p below));
       fires = λ p. firing p .0;
       fired = λ p. firing p .1;
-      ho = λ p. bits-tell _ _ (λ q. fa .ho p q ∙ sym (fb .ho p q));
-      sho = λ p. bits-tell _ _ (λ q. fa .sho p q ∙ sym (fb .sho p q));
+      ho = λ p. bits-tell _ _ (λ q. fa .sets .heard-of p q ∙ sym (fb .sets .heard-of p q));
+      sho = λ p. bits-tell _ _ (λ q. fa .sets .safely p q ∙ sym (fb .sets .safely p q));
     }
   where
     firing : (p : ℕ)
@@ -106,23 +112,30 @@ both-leave run a b reply la lb =
       default = ap (λ (r : Run). r .default) same;
       clock = ap (λ (r : Run). r .clock) same;
       each-station = λ p l. ap (λ (r : Run). station-at r p) same;
-      fires = λ p. la .fires p ∙ sym (lb .fires p);
-      fired = λ p. la .fired p ∙ sym (lb .fired p);
-      ho = λ p. la .ho p ∙ sym (lb .ho p);
-      sho = λ p. la .sho p ∙ sym (lb .sho p);
+      fires = λ p. ap (λ (l : List Bool). getD l p false) (la .fires ∙ sym (lb .fires));
+      fired = λ p. ap (λ (l : List ℕ). getD l p 0) (la .fired ∙ sym (lb .fired));
+      ho = λ p. ap (λ (l : List ℕ). getD l p 0) (la .ho ∙ sym (lb .ho));
+      sho = λ p. ap (λ (l : List ℕ). getD l p 0) (la .sho ∙ sym (lb .sho));
     }
 
--- two judges that meet the demand answer alike, on every run and all bytes
-pub one-judge : (f g : Judge) → Demand2 f → Demand2 g → (run : Run) (bs : List ℕ) → SameAnswer (f run bs) (g run bs)
-one-judge f g df dg run bs = go (is-accepted (f run bs .reply)) refl
+-- two judges that meet both demands answer alike, to every run and all bytes
+pub one-judge : (I J : Judge) → Demand1 I → Demand1 J → Demand2 I → Demand2 J → (run : Run) (bs : List ℕ)
+    → SameAnswer (I .step run bs) (J .step run bs)
+one-judge I J i1 j1 i2 j2 run bs = go (is-accepted (I .step run bs .reply)) refl
   where
-    reply : f run bs .reply ≡ g run bs .reply
-    reply = df .says run bs ∙ sym (dg .says run bs)
+    only : Only (StepReply run bs) (check-step run bs)
+    only = step-replies run bs
 
-    same : is-accepted (g run bs .reply) ≡ is-accepted (f run bs .reply)
+    reply : I .step run bs .reply ≡ J .step run bs .reply
+    reply = only .alone _ (i1 .step-says run bs) ∙ sym (only .alone _ (j1 .step-says run bs))
+
+    same : is-accepted (J .step run bs .reply) ≡ is-accepted (I .step run bs .reply)
     same = sym (ap is-accepted reply)
 
-    go : (b : Bool) → is-accepted (f run bs .reply) ≡ b → SameAnswer (f run bs) (g run bs)
+    go : (b : Bool) → is-accepted (I .step run bs .reply) ≡ b → SameAnswer (I .step run bs) (J .step run bs)
     go true e =
-        both-follow run bs (f run bs) (g run bs) reply (df .follows run bs e) (dg .follows run bs (same ∙ e))
-    go false e = both-leave run (f run bs) (g run bs) reply (df .leaves run bs e) (dg .leaves run bs (same ∙ e))
+        both-follow run bs (I .step run bs) (J .step run bs) reply (i2 .follows run bs e)
+        (j2 .follows run bs (same ∙ e))
+    go false e =
+        both-leave run (I .step run bs) (J .step run bs) reply (i1 .step-leaves run bs e)
+        (j1 .step-leaves run bs (same ∙ e))

@@ -24,20 +24,24 @@ use Rattle.hearing.specs.Survey.{ho-sets, sho-sets, survey-of}
 use Rattle.hearing.proofs.Masks.{ones-mask}
 use Rattle.play.specs.declared.Played.{Played}
 use Rattle.play.specs.Play.{play-of}
-use Rattle.consensus.specs.Demand2.{Judge, round-by-paper, Demand2}
+use Rattle.consensus.specs.Judge.{Judge}
+use Rattle.consensus.specs.Round.{round-by-paper}
+use Rattle.consensus.specs.Demand2.{Demand2}
 use Rattle.consensus.specs.Offered.{to-play, rounds-in, taken, accepted}
 use Rattle.consensus.proofs.Taken.{parts, play-rounds, taken-count}
 
--- rule 9.12, of any judge that meets the demand: equal rows leave equal stations
-pub own-row : (judge : Judge) → Demand2 judge → (run : Run) (bs bs′ : List ℕ) (p : ℕ) → p < run .setup .n
-    → is-accepted (judge run bs .reply) ≡ true → is-accepted (judge run bs′ .reply) ≡ true
-    → heard-in (run .setup .n) bs p ≡ heard-in (run .setup .n) bs′ p
-    → station (judge run bs .run) p ≡ station (judge run bs′ .run) p
+-- rules 9.12 and 15.8, of any judge that meets the demand: stations with equal state and equal row, in accepted rounds
+-- of two runs with one setup, default and clock, are left equal
+pub own-row : (J : Judge) → Demand2 J → (x y : Run) (bs cs : List ℕ) (p q : ℕ)
+    → x .setup ≡ y .setup → x .default ≡ y .default → x .clock ≡ y .clock → p < x .setup .n → q < y .setup .n
+    → is-accepted (J .step x bs .reply) ≡ true → is-accepted (J .step y cs .reply) ≡ true
+    → station x p ≡ station y q → heard-in (x .setup .n) bs p ≡ heard-in (y .setup .n) cs q
+    → station (J .step x bs .run) p ≡ station (J .step y cs .run) q
 unfolding round-by-paper
-own-row judge d run bs bs′ p h e e′ same =
-    d .follows run bs e .each-station p h
-    ∙ ap (λ (row : heard.Row). rules.after (paper-setup run) (run .default) (suc (run .clock)) (station run p) row) same
-    ∙ sym (d .follows run bs′ e′ .each-station p h)
+own-row J d x y bs cs p q setup default clock hp hq ex ey state row =
+    d .follows x bs ex .each-station p hp
+    ∙ (rw (row, state, default, clock, setup))
+    ∙ sym (d .follows y cs ey .each-station q hq)
 
 -- a survey that meets its promise has the sizes of the paper's sets, and no other (rule 7.8)
 module _ (run : Run) (bs : List ℕ) (ok : check-reading run bs ≡ Accepted) (small : run .setup .n ≤ stations) where

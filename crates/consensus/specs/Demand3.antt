@@ -2,22 +2,25 @@
 -- accepted as an opening, and whatever is then offered one after another, of any length and content, refused ones among
 -- them.
 use mathlib.Core.Path.{_≡_}
-use mathlib.Core.Bool.{true}
 use mathlib.Core.List.{List}
 use Prim.Native.Nat.{ℕ, _<_}
 use lib.ListN.{length, getD}
-use Rattle.paper.specs.Rules.{undecided, decided}
+use Rattle.paper.specs.Stations.{All}
+use Rattle.paper.specs.Rules.{decided}
 use Rattle.paper.specs.Run.{Turn, FiresAt}
 use Rattle.paper.specs.Safety.{_among_, Locked, FirstFiring, Agreement, Lock, Integrity, Kept, Decides}
 use Rattle.run.specs.declared.Run.{Run}
-use Rattle.run.specs.Run.{sound}
+use Rattle.run.specs.declared.Reply.the-variants.{Accepted}
+use Rattle.run.specs.Keeps.{Keeps}
+use Rattle.run.specs.Opening.{read-opening}
 use Rattle.round.specs.Bridge.{station, paper-setup}
+use Rattle.consensus.specs.OpeningReplies.{OpeningReply}
 use Rattle.consensus.specs.Offered.{Offer, accepted, run-after-all, left-by}
 
 -- what is promised of the run in hand after all that was offered
 pub record InHand (run : Run) (offers : List Offer) : Type 0 where
-  -- it is sound and has the opened setup and default, and its clock is the number of the accepted rounds
-  pub sound-still : sound (run-after-all run offers) ≡ true
+  -- it is good and has the opened setup and default, and its clock is the number of the accepted rounds
+  pub keeps-still : Keeps (run-after-all run offers)
   pub setup : run-after-all run offers .setup ≡ run .setup
   pub default : run-after-all run offers .default ≡ run .default
   pub clock : run-after-all run offers .clock ≡ length (accepted run offers)
@@ -29,9 +32,13 @@ pub record InHand (run : Run) (offers : List Offer) : Type 0 where
   -- the decision (v, r) of a station is that of the first round in which the rule fired at that station
   pub kept : (p v r : ℕ) → p < run .setup .n → station (run-after-all run offers) p .decision ≡ decided v r
       → (t : Turn) × FirstFiring (paper-setup run) (accepted run offers) p v t × (t .number ≡ r)
-  -- and a station at which the rule has fired is decided
+  -- and a station at which the rule has fired has that decision
   pub decides : (t : Turn) (p v : ℕ) → t among accepted run offers → p < run .setup .n → FiresAt (paper-setup run) t p v
-      → ¬ (station (run-after-all run offers) p .decision ≡ undecided)
+      → (w : ℕ) × (t₀ : Turn) × FirstFiring (paper-setup run) (accepted run offers) p w t₀
+      × (station (run-after-all run offers) p .decision ≡ decided w (t₀ .number))
+  -- and where every start is v, no station has decided another
+  pub integrity : (v : ℕ) → All (run .setup .n) (λ p. getD (run .estimates) p 0 ≡ v) → (p w r : ℕ) → p < run .setup .n
+      → station (run-after-all run offers) p .decision ≡ decided w r → w ≡ v
 
 -- what is promised of a run and of what is offered to it, through the rounds that it accepts
 pub record Demand3 (run : Run) (offers : List Offer) : Type 0 where
@@ -45,6 +52,10 @@ pub record Demand3 (run : Run) (offers : List Offer) : Type 0 where
   -- rules 16.5 and 16.6: after every accepted round, a station's decision is that of the first round in which the rule
   -- fired there, with its number
   pub kept : Kept (paper-setup run) (accepted run offers)
-  -- and from the end of a round in which the rule fires at a station onward, that station is decided
+  -- and from the end of a round in which the rule fires at a station onward, that station has that decision
   pub decides : Decides (paper-setup run) (accepted run offers)
   pub in-hand : InHand run offers
+
+-- of every opening that is accepted, and of whatever is then offered
+abbrev pub Demand3Holds : Type 0
+Demand3Holds = (bs : List ℕ) → OpeningReply bs Accepted → (offers : List Offer) → Demand3 (read-opening bs .run) offers

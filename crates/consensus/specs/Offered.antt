@@ -30,7 +30,7 @@ rounds-in run (to-step bs) = bs ∷ []
 rounds-in run (to-play bs) = cut (round-length (run .setup .n)) bs
 
 -- the round that these bytes spell, taken by this run: after it stands what the judge's run then holds
--- (`round-by-paper` in Demand2.antt has what the paper makes of each station)
+-- (`round-by-paper` in Round.antt has what the paper makes of each station)
 unfoldable pub round-by-judge : Run → List ℕ → Turn
 unfolding station heard-in step-of
 round-by-judge run bs =

@@ -175,12 +175,12 @@ module _ (bs : List ℕ) (e : check-image bs ≡ Accepted) where
   most : n ≤ stations
   most = form-stations bs (form-checked bs .1 checked)
 
-  spelt : (i : ℕ) → i < n → station-at (run-in bs) i ≡ station-in bs i
+  pub spelt : (i : ℕ) → i < n → station-at (run-in bs) i ≡ station-in bs i
   unfolding run-in
   spelt i l = built-below (setup-in bs) (default-in bs) (clock-in bs) n (station-in bs) i (omega (arith, most)) l
 
   -- each record is the one that is written of what it tells of its station
-  abbrev Spells : ℕ → Block → Type 0
+  abbrev pub Spells : ℕ → Block → Type 0
   Spells start b =
       (i : ℕ) → i < n
       → record-at bs (start + i) ≡ record-of (b .shape) i (b .there (station-in bs i)) (b .number (station-in bs i))
@@ -189,7 +189,7 @@ module _ (bs : List ℕ) (e : check-image bs ≡ Accepted) where
       → (i : ℕ) → i < n → fits-at bs start shape i ≡ true
   fit start shape = check-block-accepted bs start n shape .0
 
-  spells : Each Spells n estimates-from blocks
+  pub spells : Each Spells n estimates-from blocks
   spells =
       let all = blocks-checked bs n estimates-from blocks .0 (checked .blocks-fit) in
       let (estimates, (votes, (decisions, (rounds, _)))) = all in

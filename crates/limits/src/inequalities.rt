@@ -35,8 +35,7 @@ fn t_below_n(s: Setup) -> bool
     s.t < s.n
 }
 
-// T >= 2(n + 2 alpha - E) under A, with 2E added on both sides so that nothing is subtracted; 2T >= n + 2 alpha under
-// U.
+// T >= 2(n + 2 alpha - E) under A, with 2E on both sides; 2T >= n + 2 alpha under U.
 fn t_enough(s: Setup) -> bool
     ensures { λ r. ⌜ r ≡ setup.T-enough (algorithm-of s) (setup-of s) ⌝ }
 {

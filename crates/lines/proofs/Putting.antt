@@ -1,5 +1,5 @@
 -- Texts put one after the other, and how long they are.
-use mathlib.Core.Path.{_≡_, refl, sym, ap, _∙_}
+use mathlib.Core.Path.{_≡_, refl, sym, ap, ap₂, _∙_}
 use mathlib.Core.Bool.{Bool, true, false, cond}
 use mathlib.Core.List.{List, [], _∷_, _++_, append-assoc, append-nil}
 use Prim.Native.Char.{code}
@@ -8,9 +8,9 @@ use native.Mathlib.Numerals.{add-one}
 use native.Mathlib.Omega.{arith}
 use borrow.Author.Tests.{lt-ltb, le-ltb}
 use lib.Dec.{ltb}
-use lib.ListN.{length, take, drop, set, getD, length-append}
+use lib.ListN.{length, take, drop, set, getD, length-append, take-append-drop}
 use lib.Seq.{take-suc, take-suc-set, drop-set-lt, drop-drop}
-use Rattle.lines.specs.Text.{Put, ten, digit, spelled, number, entry, entries}
+use Rattle.lines.specs.Text.{Put, PutIf, ten, digit, spelled, number, entry, entries}
 
 -- nothing is put
 pub put-nothing : (b : List ℕ) (at : ℕ) → Put b at [] at b
@@ -81,3 +81,20 @@ spelled-short (suc most) x = go (ltb x ten) (spelled-short most (x / ten))
         → length (cond b (digit x ∷ []) (spelled most (x / ten) ++ (digit (x % ten) ∷ []))) ≤ suc most
     go true short = omega arith
     go false short = omega (arith, length-append (spelled most (x / ten)) (digit (x % ten) ∷ []))
+
+-- ---- what is put where leaves one end and one buffer
+module _ {b : List ℕ} {at : ℕ} {t : List ℕ} {e e′ : ℕ} {a a′ : List ℕ} where
+  pub put-once : Put b at t e a → Put b at t e′ a′ → (e ≡ e′) × (a ≡ a′)
+  put-once p q =
+      let same : e ≡ e′ = p .ends ∙ sym (q .ends) in
+      let fronts : take e a ≡ take e a′ = p .stands ∙ sym (ap (λ (k : ℕ). take k a′) same ∙ q .stands) in
+      let rests : drop e a ≡ drop e a′ =
+      p .behind ∙ sym (ap (λ (k : ℕ). drop k a′) same ∙ q .behind ∙ ap (λ (k : ℕ). drop k b) (sym same)) in (
+        same,
+        sym (take-append-drop e a) ∙ ap₂ (λ (x y : List ℕ). x ++ y) fronts rests ∙ take-append-drop e a′,
+      )
+
+pub put-if-once : (fits : Bool) (b : List ℕ) (at : ℕ) (t : List ℕ) (e e′ : ℕ) (a a′ : List ℕ)
+    → PutIf fits b at t e a → PutIf fits b at t e′ a′ → (e ≡ e′) × (a ≡ a′)
+put-if-once true b at t e e′ a a′ p q = put-once p q
+put-if-once false b at t e e′ a a′ p q = (p .0 ∙ sym (q .0), p .1 ∙ sym (q .1))

@@ -1,2 +1,2 @@
 -- Laws about what the program holds.
-pub mod Runs  -- the run that is listed keeps the rules of a run
+pub mod Runs  -- rounds fit their buffer, and those that may still be offered grow fewer

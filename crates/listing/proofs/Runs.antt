@@ -1,39 +1,27 @@
--- The run that is listed keeps the rules of a run, from an accepted opening on and over each accepted round; so its
--- rounds fit the buffer.
-use mathlib.Core.Path.{_≡_, sym, ap, _∙_}
-use mathlib.Core.Bool.{true}
-use mathlib.Core.List.{List}
-use Prim.Native.Nat.{ℕ, _≤_}
+-- What the program's loop rests on: a run's rounds fit the buffer for them, and with each page fewer may follow.
+use mathlib.Core.Path.{_≡_, refl}
+use mathlib.Core.Bool.{Bool, true, false, cond}
+use Prim.Native.Nat.{ℕ, suc, _-_, _≤_, _<_}
 use native.Mathlib.Nat.{mul-le-mul, mul-le-mul-left}
-use borrow.Author.Tests.{eq-eqb}
-use Rattle.run.specs.declared.Opened.{Opened}
-use Rattle.run.specs.declared.Reply.the-variants.{Accepted}
-use Rattle.run.specs.declared.Run.{Run}
+use native.Mathlib.Omega.{arith}
 use Rattle.run.specs.Keeps.{Keeps}
-use Rattle.run.specs.Opening.{read-opening, check-opening}
 use Rattle.run.specs.Record.{record-bytes}
-use Rattle.run.specs.Reply.{number-of, is-accepted}
-use Rattle.run.specs.Run.{stations}
-use Rattle.run.proofs.Asked.{accepts}
-use Rattle.run.proofs.Openings.{opened-reply, opened-sound}
-use Rattle.run.proofs.Sound.{sound-iff}
+use Rattle.run.specs.Run.{stations, most-rounds}
 use Rattle.round.specs.Reading.{round-length}
-use Rattle.judge.specs.declared.Stepped.{Stepped}
-use Rattle.judge.specs.Step.{step-of}
-use Rattle.judge.proofs.Steps.{passed, keeps-next}
-
--- the code asks for a reply's number
-pub opened-keeps : (bs : List ℕ) {o : Opened} {m : ℕ} → o ≡ read-opening bs → m ≡ number-of (o .reply) → m ≡ 0
-    → Keeps (o .run)
-opened-keeps bs {o} is told zero =
-    let e : check-opening bs ≡ Accepted = accepts (ap (λ (x : Opened). x .reply) is ∙ opened-reply bs) told zero in
-    rw is (sound-iff (read-opening bs .run) .0 (opened-sound bs e))
-
-pub stepped-keeps : (run : Run) (bs : List ℕ) {s : Stepped} {m : ℕ} → s ≡ step-of run bs → m ≡ number-of (s .reply)
-    → m ≡ 0 → Keeps (s .run)
-stepped-keeps run bs {s} is told zero =
-    let e : is-accepted (s .reply) ≡ true = eq-eqb (number-of (s .reply)) 0 (sym told ∙ zero) in
-    rw is (keeps-next run bs (passed run bs (rw is at e)))
+use Rattle.pages.specs.declared.Listed.{Listed}
 
 pub round-fits : (n : ℕ) → n ≤ stations → round-length n ≤ round-length stations
 round-fits n h = mul-le-mul (mul-le-mul-left record-bytes h) h
+
+-- the pages that may follow: a full run has one more, of the round that is refused or of the tape's end
+abbrev pub left : Listed → ℕ
+left l = cond (l .more) (suc most-rounds - l .run .clock) 0
+
+pub fewer : (l r : Listed) → l .more ≡ true → Keeps (l .run)
+    → (r .more ≡ true → r .run .clock ≡ suc (l .run .clock)) → left r < left l
+fewer l r goes keeps next = rw goes (go (r .more) refl)
+  where
+    go : (b : Bool) → r .more ≡ b
+        → cond b (suc most-rounds - r .run .clock) 0 < suc most-rounds - l .run .clock
+    go true e = omega (arith, next e, keeps .clock)
+    go false e = omega (arith, keeps .clock)

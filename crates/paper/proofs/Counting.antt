@@ -88,6 +88,14 @@ size-all (suc n) X all =
     let here : one (X n) ≡ 1 = ap one (all n (le-refl (suc n))) in
     omega (arith, size-all n X (λ q h. all q (omega arith)))
 
+-- no station is in a set whose size is 0
+pub size-none : (n : ℕ) (X : Stations) → All n (λ q. X q ≡ false) → size n X ≡ 0
+unfolding size one
+size-none zero X none = refl
+size-none (suc n) X none =
+    let here : one (X n) ≡ 0 = ap one (none n (le-refl (suc n))) in
+    omega (arith, size-none n X (λ q h. none q (omega arith)))
+
 -- sets with the same stations have the same size
 pub size-cong : (n : ℕ) (X Y : Stations) → All n (λ q. X q ≡ Y q) → size n X ≡ size n Y
 unfolding size

@@ -189,7 +189,14 @@ module _ (S : Setup) (default : ℕ) (starts : ℕ → ℕ) (ts : List Turn) whe
   unfolding Kept Run opened
   kept ok run u p v r i h d = first-of S default ok p h ts 0 (opened starts) run refl u v r i d
 
-  -- and whoever has fired is decided
+  -- and whoever has fired has it: one that is not undecided has some decision, and so that one
   pub decides : acceptable S ≡ true → Run S default starts ts → Decides S ts
-  unfolding Decides Run
-  decides ok run t u p v i j order h f = done-from S default ok p h ts 0 (opened starts) run t u v i j order f
+  unfolding Decides Run opened
+  decides ok run t u p v i j order h f = go (u .after p .decision) refl
+    where
+      go : (d : Decision) → u .after p .decision ≡ d
+          → (w : ℕ) × (t₀ : Turn) × FirstFiring S ts p w t₀ × (u .after p .decision ≡ decided w (t₀ .number))
+      go undecided e = absurd (done-from S default ok p h ts 0 (opened starts) run t u v i j order f e)
+      go (decided w r) e =
+          let found = first-of S default ok p h ts 0 (opened starts) run refl u w r j e in
+          (w, found .0, found .1, e ∙ ap (decided w) (sym (found .2)))

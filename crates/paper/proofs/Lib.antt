@@ -21,6 +21,8 @@ pub mod Passing
 pub mod After
 -- each rule told from outside
 pub mod Pins
+-- and by the number of the round
+pub mod AtRounds
 -- ---- safety
 -- what a row with few altered cells tells its receiver
 pub mod Receives
@@ -28,11 +30,14 @@ pub mod Receives
 pub mod OneRound
 -- the numbers of a run's rounds
 pub mod Rounds
--- agreement, the lock and integrity (Propositions 1, 2, 5 and 6)
+-- agreement, the lock and integrity (Propositions 1, 2, 5 and 6), Lemmas 5, 8 and 9
 pub mod Safety
 -- the decision that is kept is the first firing's
 pub mod Decisions
--- the lock says no more than is true
-pub mod Tight
--- there are runs of every length
+-- ---- what is stated of all runs is stated of something
+-- there are runs of every length, and lawful ones
 pub mod GoesOn
+-- there are lawful runs in which all decide
+pub mod Fires
+-- the lock of A is as strong as it can be
+pub mod Tight

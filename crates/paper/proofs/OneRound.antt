@@ -4,13 +4,14 @@
 use mathlib.Core.Path.{_≡_, refl, ap, sym, _∙_, subst}
 use mathlib.Core.Bool.{Bool, true, false, cond, false≢true}
 use mathlib.Core.List.{[], _∷_}
+use mathlib.Core.Logic.{_⊎_, inl, inr}
 use mathlib.Core.Option.{Option, none, some}
 use Prim.Native.Nat.{ℕ, _+_, _≤_, _<_}
 use native.Mathlib.Omega.{arith}
 use borrow.Author.Tests.{eqb-true, eq-eqb}
 use Rattle.paper.specs.Stations.{size, one, All}
 use Rattle.paper.specs.Heard.{val, query, Matrix, same, HO, SHO, AHO, Q}
-use Rattle.paper.specs.Setup.{Setup, A, U, acceptable, passes-T, passes-E, passes-bound}
+use Rattle.paper.specs.Setup.{Setup, A, U, acceptable, passes-T, passes-E, vouched, passes-bound}
 use Rattle.paper.specs.Rules.{Kind, update, value, vote, sends, times, smallest, most-often, or-else}
 use Rattle.paper.specs.Rules.{vote-or-else, next-estimate, next-vote, deciding, Fires}
 use Rattle.paper.specs.Run.{States}
@@ -18,7 +19,9 @@ use Rattle.paper.specs.Safety.{holders}
 use Rattle.paper.proofs.Counting.{count-le, size-all, one-le, agree}
 use Rattle.paper.proofs.Sets.{same-refl, senders-apart}
 use Rattle.paper.proofs.Smallest.{smallest-some}
-use Rattle.paper.proofs.Receives.{OneValue, backed, backed-E, decided-true, takes-most, adopts, votes-for}
+use Rattle.paper.proofs.Receives.{OneValue, backed, backed-E, decided-true, vouched-true, takes-most, adopts}
+use Rattle.paper.proofs.Receives.{votes-for}
+use Rattle.paper.proofs.Setups.{A-not-U}
 use Rattle.paper.proofs.Thresholds.{two-pass-E, two-pass-T, all-pass-E, more-pass-E}
 
 -- the kind of the round that follows
@@ -70,18 +73,29 @@ module _ (S : Setup) (default : ℕ) (ok : acceptable S ≡ true) (b : States) (
       subst (λ k. passes-E S (k + S .alpha) ≡ true) (sym (holders-send v))
       (backed-E S (m p) (λ q. sends update (b q)) (t .few p h) v (f .enough))
 
+  -- A's estimate at p, by whether more than T are heard
+  abbrev by-T : ℕ → Bool → ℕ
+  by-T p heard-enough =
+      cond heard-enough (or-else (smallest (S .n) (m p) (most-often (S .n) (m p))) (b p .estimate)) (b p .estimate)
+
   -- Lemma 4, at one station: whoever updates takes v, so whoever held v holds it
-  kept-v : Taken update → (v : ℕ) → Bound S update b v → (p : ℕ) → p < S .n → b p .estimate ≡ v → a p .estimate ≡ v
+  takes-v : Taken update → (v : ℕ) → Bound S update b v → (p : ℕ) → p < S .n
+      → passes-T S (size (S .n) (HO (m p))) ≡ true → a p .estimate ≡ v
   unfolding next-estimate or-else
-  kept-v t v bound p h e = t .estimates p h ∙ go (passes-T S (size (S .n) (HO (m p)))) refl
+  takes-v t v bound p h x =
+      t .estimates p h
+      ∙ ap (by-T p) x
+      ∙ ap (λ o. or-else o (b p .estimate))
+      (takes-most S (m p) (λ q. sends update (b q)) (t .few p h) ok (t .setup) v
+      (subst (λ k. passes-E S (k + S .alpha) ≡ true) (holders-send v) bound) x)
+
+  kept-v : Taken update → (v : ℕ) → Bound S update b v → (p : ℕ) → p < S .n → b p .estimate ≡ v → a p .estimate ≡ v
+  unfolding next-estimate
+  kept-v t v bound p h e = go (passes-T S (size (S .n) (HO (m p)))) refl
     where
-      go : (x : Bool) → passes-T S (size (S .n) (HO (m p))) ≡ x
-          → cond x (or-else (smallest (S .n) (m p) (most-often (S .n) (m p))) (b p .estimate)) (b p .estimate) ≡ v
-      go false x = e
-      go true x =
-          ap (λ o. or-else o (b p .estimate))
-          (takes-most S (m p) (λ q. sends update (b q)) (t .few p h) ok (t .setup) v
-          (subst (λ k. passes-E S (k + S .alpha) ≡ true) (holders-send v) bound) x)
+      go : (x : Bool) → passes-T S (size (S .n) (HO (m p))) ≡ x → a p .estimate ≡ v
+      go false x = t .estimates p h ∙ ap (by-T p) x ∙ e
+      go true x = takes-v t v bound p h x
 
   more-hold : Taken update → (v : ℕ) → Bound S update b v → size (S .n) (holders b v) ≤ size (S .n) (holders a v)
   unfolding holders one
@@ -215,3 +229,35 @@ module _ (S : Setup) (default : ℕ) (ok : acceptable S ≡ true) (b : States) (
       let mine = true-vote t p v hp f in
       let other = true-vote t q w hq g in
       prepared (mine .0) (other .0) v w (mine .1) (other .1) (mine .2) (other .2)
+
+  -- Lemmas 4 and 5: under A whoever updates takes v, where the stations are bound to v or the rule fires for v
+  pub bound-takes : (k : Kind) → Taken k → (v : ℕ) → Bound S k b v → S .algorithm ≡ A → (q : ℕ) → q < S .n
+      → passes-T S (size (S .n) (HO (m q))) ≡ true → a q .estimate ≡ v
+  bound-takes update t v bound own q h x = takes-v t v bound q h x
+  bound-takes value t v bound own q h x = absurd (A-not-U (sym own ∙ t .setup))
+  bound-takes vote t v bound own q h x = absurd (A-not-U (sym own ∙ t .setup))
+
+  pub fires-takes : (k : Kind) → Taken k → (p v : ℕ) → p < S .n → Fires S k (m p) v → S .algorithm ≡ A → (q : ℕ)
+      → q < S .n → passes-T S (size (S .n) (HO (m q))) ≡ true → a q .estimate ≡ v
+  fires-takes update t p v hp f own q h x = takes-v t v (fires-bound t p v hp f) q h x
+  fires-takes value t p v hp f own q h x = absurd (A-not-U (sym own ∙ t .setup))
+  fires-takes vote t p v hp f own q h x = absurd (A-not-U (sym own ∙ t .setup))
+
+  -- Lemma 8: after a round that starts with a vote for v, an estimate is v or the default
+  pub voted-or-default : (k : Kind) → Taken k → Prepared S k b → S .algorithm ≡ U → (p v : ℕ) → p < S .n
+      → b p .vote ≡ val v → (q : ℕ) → q < S .n → (a q .estimate ≡ v) ⊎ (a q .estimate ≡ default)
+  unfolding next-estimate or-else sends
+  voted-or-default update t prepared own p v hp e q h = absurd (A-not-U (sym (t .setup) ∙ own))
+  voted-or-default value t prepared own p v hp e q h =
+      let z : _≡_ {A = ℕ} 0 1 = cc (prepared p hp) in absurd (omega arith)
+  voted-or-default vote t prepared own p v hp e q h =
+      go (smallest (S .n) (m q) (λ w. vouched S (times (S .n) (m q) w))) refl
+    where
+      go : (o : Option ℕ) → smallest (S .n) (m q) (λ w. vouched S (times (S .n) (m q) w)) ≡ o
+          → (a q .estimate ≡ v) ⊎ (a q .estimate ≡ default)
+      go none f = inr (t .estimates q h ∙ ap (λ x. or-else x default) f)
+      go (some w) f =
+          let vouches = smallest-some (S .n) (m q) (λ x. vouched S (times (S .n) (m q) x)) w f .passes in
+          let voter = vouched-true S (m q) (λ x. b x .vote) (t .few q h) w vouches in
+          inl (t .estimates q h ∙ ap (λ x. or-else x default) f
+          ∙ prepared (voter .0) p w v (voter .1) hp (voter .2) e)

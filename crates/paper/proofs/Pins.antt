@@ -12,7 +12,8 @@ use Rattle.paper.specs.Stations.{All, size, every}
 use Rattle.paper.specs.Heard.{val, query, Cell, lost, heard, Row, arrived, holds, HO, R}
 use Rattle.paper.specs.Setup.{Setup, U, acceptable, passes-T, passes-E, vouched}
 use Rattle.paper.specs.Rules.{Station, Kind, update, value, vote, times, candidate, smaller, smallest, no-oftener}
-use Rattle.paper.specs.Rules.{most-often, or-else, vote-or-else, next-estimate, next-vote, deciding, Fires, fired}
+use Rattle.paper.specs.Rules.{most-often, or-else, vote-or-else, over-E, next-estimate, next-vote, deciding}
+use Rattle.paper.specs.Rules.{Fires, fired}
 use Rattle.paper.proofs.Counting.{size-member, size-cong}
 use Rattle.paper.proofs.Smallest.{Least, smallest-some}
 use Rattle.paper.proofs.MostOften.{Received, came, most-often-iff, most-often-all, most-often-found}
@@ -135,10 +136,12 @@ module _ (S : Setup) (row : Row) (no-value : (w : ℕ) → ¬ Received (S .n) ro
           let l = smallest-some (S .n) row test v e in absurd (no-value v (l .from, l .below, l .heard-there))
 
   pub no-value-no-firing : (k : Kind) → fired S k row ≡ none
-  unfolding fired deciding
-  no-value-no-firing update = finds-nothing _
-  no-value-no-firing value = refl
-  no-value-no-firing vote = finds-nothing _
+  unfolding fired over-E
+  no-value-no-firing k = go (deciding k)
+    where
+      go : (b : Bool) → cond b (over-E S row) none ≡ none
+      go true = finds-nothing _
+      go false = refl
 
   pub no-value-no-vote : (s : Station) → next-vote S value s row ≡ s .vote
   unfolding next-vote vote-or-else

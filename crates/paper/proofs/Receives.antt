@@ -38,7 +38,7 @@ module _ (S : Setup) (row : Row) (sent : ℕ → Message) (few : size (S .n) (AH
   backed v = omega (arith, lemma-1 (S .n) row sent v)
 
   -- Lemma 8: at least alpha + 1 votes for w, and one of them is true
-  vouched-true : (w : ℕ) → vouched S (times (S .n) row w) ≡ true → (q : ℕ) × (q < S .n) × (sent q ≡ val w)
+  pub vouched-true : (w : ℕ) → vouched S (times (S .n) row w) ≡ true → (q : ℕ) × (q < S .n) × (sent q ≡ val w)
   vouched-true w e = sent-by (S .n) sent w (omega (arith, backed w, vouched-iff S (times (S .n) row w) .0 e))
 
   -- a value that passes E was to be sent by somebody

@@ -1,27 +1,31 @@
--- The paper's Propositions 1, 2, 5 and 6, for any number of rounds: the stations are bound to the value of the first
--- firing from the end of its round on (OneRound), and a bound run fires for that value alone. By induction on the
--- rounds.
+-- The paper's Propositions 1, 2, 5 and 6 and its Lemmas 5, 8 and 9, for any number of rounds: the stations are bound to
+-- the value of the first firing from the end of its round on (OneRound), and a bound run fires for that value alone. By
+-- induction on the rounds.
 use mathlib.Core.Path.{_≡_, refl, ap, sym, _∙_, subst}
 use mathlib.Core.Bool.{Bool, true, false, cond}
 use mathlib.Core.List.{List, [], _∷_, List·Memᴰ·cases-cons, List·Memᴰ·head, List·Memᴰ·tail, List·Memᴰ·not-nil}
 use mathlib.Core.Logic.{_⊎_, inl, inr, ⊎-elim}
 use Prim.Native.Nat.{ℕ, suc, _+_, _%_, _≤_, _<_}
+use native.Mathlib.Nat.{le-refl}
 use native.Mathlib.Decide.{decLe}
 use native.Mathlib.Omega.{arith}
 use lib.Dec.{eqb}
 use borrow.Author.Tests.{eqb-true, eqb-false, eq-eqb, ne-eqb}
 use Rattle.paper.specs.Stations.{size, All}
-use Rattle.paper.specs.Heard.{Matrix, SHO, AHO}
-use Rattle.paper.specs.Setup.{Algorithm, A, U, Setup, acceptable, passes-E, tolerated, passes-bound}
+use Rattle.paper.specs.Heard.{Matrix, HO, SHO, AHO}
+use Rattle.paper.specs.Setup.{Algorithm, A, U, Setup, acceptable, passes-T, passes-E, tolerated, passes-bound}
 use Rattle.paper.specs.Rules.{Station, Kind, update, value, vote, kind-of, sends}
 use Rattle.paper.specs.Run.{States, opened, Turn, Next, Rounds, Run, kind, sent, P-alpha, P-safe, Safe, FiresAt}
 use Rattle.paper.specs.Safety.{_among_, holders, Locked-for, Locked, Lawful, Agreement, Lock, Integrity}
+use Rattle.paper.specs.Safety.{Lemma-5, Lemma-8-votes, Lemma-8-estimates, Lemma-9}
 use Rattle.paper.proofs.Counting.{size-all, size-cong}
 use Rattle.paper.proofs.Thresholds.{tolerated-iff, all-pass-E}
 use Rattle.paper.proofs.After.{after-estimate, after-vote}
-use Rattle.paper.proofs.Rounds.{numbered, fires-in}
+use Rattle.paper.proofs.Receives.{OneValue}
+use Rattle.paper.proofs.Rounds.{numbered, starts-there, fires-in}
 use Rattle.paper.proofs.OneRound.{follows, Prepared, Bound, SetupFor, SafeSets, Taken, prepared-next, bound-next}
-use Rattle.paper.proofs.OneRound.{bound-fires, fires-next, fires-once}
+use Rattle.paper.proofs.OneRound.{bound-fires, fires-next, fires-once, bound-takes, fires-takes}
+use Rattle.paper.proofs.OneRound.{voted-or-default}
 
 -- rule 9.1: under U the two kinds of round take turns
 pub kind-follows : (a : Algorithm) (r : ℕ) → kind-of a (suc r) ≡ follows (kind-of a r)
@@ -133,6 +137,12 @@ module _ (S : Setup) (default : ℕ) (ok : acceptable S ≡ true) where
       go A bound = bound
       go U bound = under-U (eqb (suc k % 2) 0) bound
 
+  -- under A whoever updates in this round takes v
+  abbrev Updates : ℕ → Turn → Type 0
+  Updates v t =
+      S .algorithm ≡ A → (q : ℕ) → q < S .n → passes-T S (size (S .n) (HO (t .heard q))) ≡ true
+      → t .after q .estimate ≡ v
+
   -- a round t, as the induction meets it: where it starts, where it leads, and what may fire in it
   module _ {k : ℕ} {s : States} {t : Turn} (st : Next S default k s t) (safe : Safe S t) (ready : PreparedAt k s) where
     prepared-here : Prepared S (next-kind k) (t .before)
@@ -158,6 +168,11 @@ module _ (S : Setup) (default : ℕ) (ok : acceptable S ≡ true) where
         (taken st safe) prepared-here p q v w hp hq
         (fires-in S default st p v .0 f) (fires-in S default st q w .0 g)
 
+    fired-updates : (p v : ℕ) → p < S .n → FiresAt S t p v → Updates v t
+    fired-updates p v h f =
+        fires-takes S default ok (t .before) (t .heard) (t .after) (next-kind k) (taken st safe) p v h
+        (fires-in S default st p v .0 f)
+
     module _ (v : ℕ) (bound : BoundAt k s v) where
       bound-here : Bound S (next-kind k) (t .before) v
       bound-here = bound-from (next-kind k) s (t .before) (st .from) v bound
@@ -168,6 +183,11 @@ module _ (S : Setup) (default : ℕ) (ok : acceptable S ≡ true) where
           (bound-next S default ok (t .before) (t .heard) (t .after) (next-kind k)
           (taken st safe) prepared-here v bound-here)
 
+      bound-updates : Updates v t
+      bound-updates own q h x =
+          bound-takes S default ok (t .before) (t .heard) (t .after) (next-kind k)
+          (taken st safe) v bound-here own q h x
+
       bound-value : (p w : ℕ) → p < S .n → FiresAt S t p w → w ≡ v
       bound-value p w h f =
           bound-fires S default ok (t .before) (t .heard) (t .after) (next-kind k)
@@ -177,9 +197,10 @@ module _ (S : Setup) (default : ℕ) (ok : acceptable S ≡ true) where
   abbrev AllSafe : List Turn → Type 0
   AllSafe ts = (t : Turn) → t among ts → Safe S t
 
-  -- what a value binds: the stations after the round u are locked to it, and nothing else fires in u
+  -- what a value binds: the stations after the round u are locked to it, nothing else fires in u, and nobody updates to
+  -- anything else
   abbrev Binds : ℕ → Turn → Type 0
-  Binds v u = Locked S (u .after) v × ((q w : ℕ) → q < S .n → FiresAt S u q w → w ≡ v)
+  Binds v u = Locked S (u .after) v × ((q w : ℕ) → q < S .n → FiresAt S u q w → w ≡ v) × Updates v u
 
   bound-run : (ts : List Turn) (k : ℕ) (s : States) → Rounds S default k s ts → AllSafe ts → PreparedAt k s → (v : ℕ)
       → BoundAt k s v
@@ -190,8 +211,11 @@ module _ (S : Setup) (default : ℕ) (ok : acceptable S ≡ true) where
       let here : Safe S t = safe t (List·Memᴰ·head refl) in
       let on : BoundAt (suc k) (t .after) v = still-bound (run .0) here prepared v bound in
       ⊎-elim
-      (λ e. subst (λ (x : Turn). Binds v x) (sym e)
-      (locked (suc k) (t .after) v on, bound-value (run .0) here prepared v bound))
+      (λ e. subst (λ (x : Turn). Binds v x) (sym e) (
+        locked (suc k) (t .after) v on,
+        bound-value (run .0) here prepared v bound,
+        bound-updates (run .0) here prepared v bound,
+      ))
       (bound-run ts (suc k) (t .after) (run .1) (λ x j. safe x (List·Memᴰ·tail j))
       (prepared-after (run .0) here prepared) v on u) (List·Memᴰ·cases-cons i)
 
@@ -228,10 +252,43 @@ module _ (S : Setup) (default : ℕ) (ok : acceptable S ≡ true) where
           subst (λ (y : Turn). Binds v y) (sym e) (
             locked (suc k) (x .after) v (fired-bound (run .0) here prepared p v h g),
             λ q w hq d. fired-once (run .0) here prepared q p w v hq h d g,
+            fired-updates (run .0) here prepared p v h g,
           )
       at-head g (inr m) =
           bound-run ts (suc k) (x .after) (run .1) later (prepared-after (run .0) here prepared) v
           (fired-bound (run .0) here prepared p v h g) u m
+
+  -- a round of the run: the rounds before it, the states that they left, and what is believed of those
+  record Met (u : Turn) : Type 0 where
+    rounds-before : ℕ
+    states : States
+    next : Next S default rounds-before states u
+    safe : Safe S u
+    ready : PreparedAt rounds-before states
+
+  met : (ts : List Turn) (k : ℕ) (s : States) → Rounds S default k s ts → AllSafe ts → PreparedAt k s → (u : Turn)
+      → u among ts
+      → Met u
+  unfolding Rounds
+  met [] k s run safe prepared u i = absurd (List·Memᴰ·not-nil i)
+  met (t ∷ ts) k s run safe prepared u i =
+      let here : Safe S t = safe t (List·Memᴰ·head refl) in
+      ⊎-elim
+      (λ e. subst (λ (x : Turn). Met x) (sym e)
+      (record { rounds-before = k; states = s; next = run .0; safe = here; ready = prepared }))
+      (met ts (suc k) (t .after) (run .1) (λ x j. safe x (List·Memᴰ·tail j)) (prepared-after (run .0) here prepared) u)
+      (List·Memᴰ·cases-cons i)
+
+  -- under U the votes that stand between two rounds name one value: "?" alone before a value round
+  votes-agree : S .algorithm ≡ U → (k : ℕ) (s : States) → PreparedAt k s → OneValue (S .n) (λ p. s p .vote)
+  unfolding kind-of
+  votes-agree own k s ready =
+      go (eqb (suc k % 2) 0) (subst (λ (a : Algorithm). Prepared S (kind-of a (suc k)) s) own ready)
+    where
+      go : (x : Bool) → Prepared S (cond x vote value) s → OneValue (S .n) (λ p. s p .vote)
+      go true one-value = one-value
+      go false blank =
+          λ p q v w hp hq e d. let z : _≡_ {A = ℕ} 0 1 = cc (blank p hp) in absurd (omega arith)
 
   -- a run starts prepared, and bound where all starts are one value
   prepared-start : (starts : ℕ → ℕ) → PreparedAt 0 (opened starts)
@@ -269,6 +326,37 @@ module _ (S : Setup) (default : ℕ) (ok : acceptable S ≡ true) where
     stays-locked t u p v i j order h f =
         fired-run ts 0 (opened starts) run safe (prepared-start starts) t u p v i j order h f .0
 
+    met-in : (u : Turn) → u among ts → Met u
+    unfolding Run
+    met-in = met ts 0 (opened starts) run safe (prepared-start starts)
+
+    updates-to : Lemma-5 S ts
+    unfolding Lemma-5 Run
+    updates-to own t u p q v i j order hp hq f enough =
+        fired-run ts 0 (opened starts) run safe (prepared-start starts) t u p v i j order hp f .2 own q hq enough
+
+    one-vote-left : Lemma-8-votes S ts
+    unfolding Lemma-8-votes
+    one-vote-left own t p q v w i hp hq e d =
+        let m = met-in t i in
+        votes-agree own (suc (m .rounds-before)) (t .after)
+        (prepared-after (m .next) (m .safe) (m .ready)) p q v w hp hq e d
+
+    vote-or-default : Lemma-8-estimates S default ts
+    unfolding Lemma-8-estimates Run
+    vote-or-default own t u p q v i j next hp hq e =
+        let m = met-in u j in
+        let there = starts-there S default ts 0 (opened starts) run t u i j next p hp in
+        voted-or-default S default ok (u .before) (u .heard) (u .after) (next-kind (m .rounds-before))
+        (taken (m .next) (m .safe)) (prepared-here (m .next) (m .safe) (m .ready)) own p v hp
+        (ap (λ (x : Station). x .vote) there ∙ e) q hq
+
+    all-take : Lemma-9 S ts
+    unfolding Lemma-9 Lock Locked Locked-for
+    all-take own t p q v i hp hq f =
+        subst (λ (a : Algorithm). Locked-for a S (t .after) v) own
+        (stays-locked t t p v i i (le-refl (t .number)) hp f) q hq
+
     only-start : Integrity S starts ts
     unfolding Integrity Run
     only-start v all t p w i h f =
@@ -286,3 +374,16 @@ module _ (S : Setup) (default : ℕ) (starts : ℕ → ℕ) (ts : List Turn) (la
   -- (c) if all start with one value, no other is decided
   pub integrity : Integrity S starts ts
   integrity = only-start S default (lawful .setup) starts ts (lawful .rounds) (lawful .safe)
+
+  -- the lemmas
+  pub lemma-5 : Lemma-5 S ts
+  lemma-5 = updates-to S default (lawful .setup) starts ts (lawful .rounds) (lawful .safe)
+
+  pub lemma-8-votes : Lemma-8-votes S ts
+  lemma-8-votes = one-vote-left S default (lawful .setup) starts ts (lawful .rounds) (lawful .safe)
+
+  pub lemma-8-estimates : Lemma-8-estimates S default ts
+  lemma-8-estimates = vote-or-default S default (lawful .setup) starts ts (lawful .rounds) (lawful .safe)
+
+  pub lemma-9 : Lemma-9 S ts
+  lemma-9 = all-take S default (lawful .setup) starts ts (lawful .rounds) (lawful .safe)

@@ -7,10 +7,10 @@ use Prim.Native.Nat.{ℕ, _+_, _≤_, zero-le}
 use native.Mathlib.Nat.{le-refl}
 use native.Mathlib.Omega.{arith}
 use borrow.Author.Tests.{eqb-true, eq-eqb}
-use Rattle.paper.specs.Stations.{one, size}
+use Rattle.paper.specs.Stations.{one, size, All}
 use Rattle.paper.specs.Heard.{Message, val, query, Cell, lost, heard, Row, same, arrived, holds, HO, SHO, AHO, R}
 use Rattle.paper.specs.Heard.{Q}
-use Rattle.paper.proofs.Counting.{count-le, everyone, size-everyone, one-le}
+use Rattle.paper.proofs.Counting.{count-le, everyone, size-everyone, one-le, size-all, size-none}
 
 pub same-eq : (k m : Message) → same k m ≡ true → k ≡ m
 unfolding same
@@ -136,3 +136,24 @@ module _ (n : ℕ) (v w : ℕ) (apart : v ≢ w) where
         size-everyone n,
         count-le n (Q sent v ∷ Q sent w ∷ []) (everyone ∷ []) (λ q h. omega (arith, two-messages (sent q) v w apart)),
       )
+
+-- where all is heard as sent, every sender is in SHO and none in AHO
+module _ (n : ℕ) (row : Row) (sent : ℕ → Message) (as-sent : All n (λ q. row q ≡ heard (sent q))) where
+  pub SHO-as-sent : size n (SHO row sent) ≡ n
+  unfolding SHO holds
+  SHO-as-sent =
+      size-all n (SHO row sent) (λ q h. ap (λ c. holds c (sent q)) (as-sent q h) ∙ same-refl (sent q))
+
+  pub AHO-as-sent : size n (AHO row sent) ≡ 0
+  unfolding AHO HO SHO arrived holds
+  AHO-as-sent =
+      size-none n (AHO row sent)
+      (λ q h. ap (λ c. arrived c && not (holds c (sent q))) (as-sent q h) ∙ ap not (same-refl (sent q)))
+
+  -- and a value that all ought to send is received from all
+  pub R-as-sent : (v : ℕ) → All n (λ q. sent q ≡ val v) → n ≤ size n (R row v)
+  unfolding Q
+  R-as-sent v all =
+      let senders : size n (Q sent v) ≡ n = size-all n (Q sent v)
+      (λ q h. ap (λ x. same x (val v)) (all q h) ∙ same-refl (val v)) in
+      omega (arith, safely-received n row sent v, SHO-as-sent)

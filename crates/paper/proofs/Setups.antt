@@ -2,7 +2,7 @@
 -- from the others, so that the four in a row are the test under either algorithm.
 use mathlib.Core.Path.{_≡_, refl, sym, _∙_, subst}
 use mathlib.Core.Bool.{Bool, true, false, _&&_}
-use Prim.Native.Nat.{ℕ, _+_, _-_, _*_, _≤_, _<_}
+use Prim.Native.Nat.{ℕ, _+_, _*_, _≤_, _<_}
 use native.Mathlib.Omega.{arith}
 use lib.Dec.{leb}
 use borrow.Author.Tests.{ltb-true, leb-true, lt-ltb, le-leb}
@@ -23,7 +23,7 @@ acceptable-own S a ok own = subst (λ (b : Algorithm). acceptable-for b S ≡ tr
 pub record MeetsA (S : Setup) : Type 0 where
   pub E-below : S .E < S .n
   pub T-below : S .T < S .n
-  pub T-high : 2 * (S .n + 2 * S .alpha - S .E) ≤ S .T
+  pub T-high : 2 * (S .n + 2 * S .alpha) ≤ S .T + 2 * S .E
 
 pub record MeetsU (S : Setup) : Type 0 where
   pub E-below : S .E < S .n
@@ -110,10 +110,3 @@ leb-same a b c d there back = go (leb a b) (leb c d) refl refl
     go true t p q = p ∙ sym (le-leb c d (there (leb-true a b p)))
     go false true p q = le-leb a b (back (leb-true c d q)) ∙ sym q
     go false false p q = p ∙ sym q
-
--- T's lower bound under A may be tested with 2E added on both sides
-pub T-enough-A : (S : Setup) → leb (2 * (S .n + 2 * S .alpha)) (S .T + 2 * S .E) ≡ T-enough A S
-unfolding T-enough
-T-enough-A S =
-    leb-same (2 * (S .n + 2 * S .alpha)) (S .T + 2 * S .E) (2 * (S .n + 2 * S .alpha - S .E)) (S .T) (omega arith)
-    (omega arith)

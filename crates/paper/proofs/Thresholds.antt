@@ -3,7 +3,7 @@
 use mathlib.Core.Path.{_≡_}
 use mathlib.Core.Bool.{true}
 use mathlib.Core.Logic.{_↔_}
-use Prim.Native.Nat.{ℕ, _+_, _-_, _*_, _≤_, _<_}
+use Prim.Native.Nat.{ℕ, _+_, _*_, _≤_, _<_, zero-le}
 use native.Mathlib.Omega.{arith}
 use borrow.Author.Tests.{ltb-true, leb-true, lt-ltb, le-leb}
 use Rattle.paper.specs.Setup.{A, U, Setup, passes-T, passes-E, vouched, tolerated, acceptable, safe-bound}
@@ -28,9 +28,10 @@ module _ (S : Setup) where
   unfolding tolerated
   tolerated-iff k = (leb-true k (S .alpha), le-leb k (S .alpha))
 
-  -- equation (7): more than each of the three
+  -- equation (7): more than T, more than alpha, and more than n + 2 alpha - E - 1, with E + 1 on both sides. Of any
+  -- setup: what is more than T is not 0, so that a difference cut off at 0 is passed too
   pub passes-bound-iff : (k : ℕ)
-      → (passes-bound S k ≡ true) ↔ ((S .n + 2 * S .alpha - S .E - 1 < k) × (S .T < k) × (S .alpha < k))
+      → (passes-bound S k ≡ true) ↔ ((S .T < k) × (S .alpha < k) × (S .n + 2 * S .alpha < k + S .E + 1))
   unfolding passes-bound safe-bound
   passes-bound-iff k = (λ e. omega (arith, ltb-true (safe-bound S) k e), λ more. lt-ltb (safe-bound S) k (omega arith))
 
@@ -42,9 +43,13 @@ module _ (S : Setup) where
   pub more-pass-T : (a b : ℕ) → a ≤ b → passes-T S a ≡ true → passes-T S b ≡ true
   more-pass-T a b h x = passes-T-iff b .1 (omega (arith, passes-T-iff a .0 x))
 
+  -- none altered is tolerated
+  pub none-tolerated : tolerated S 0 ≡ true
+  none-tolerated = tolerated-iff 0 .1 zero-le
+
   -- equation (7) gives: a safe set passes T
   pub bound-T : (k : ℕ) → passes-bound S k ≡ true → passes-T S k ≡ true
-  bound-T k x = passes-T-iff k .1 (passes-bound-iff k .0 x .1)
+  bound-T k x = passes-T-iff k .1 (passes-bound-iff k .0 x .0)
 
   -- ---- of an acceptable setup
   module _ (ok : acceptable S ≡ true) where
@@ -59,11 +64,26 @@ module _ (S : Setup) where
     pub two-pass-E : (a b : ℕ) → passes-E S a ≡ true → passes-E S b ≡ true → S .n + 2 * S .alpha < a + b
     two-pass-E a b x y = let m = meets S ok in omega (arith, passes-E-iff a .0 x, passes-E-iff b .0 y)
 
+    -- alpha is below n
+    pub alpha-below-n : S .alpha < S .n
+    alpha-below-n = let m = meets S ok in omega arith
+
+    -- n messages pass T, E and the bound
+    pub n-passes-T : passes-T S (S .n) ≡ true
+    n-passes-T = let m = meets S ok in passes-T-iff (S .n) .1 (m .T-below)
+
+    pub n-passes-E : passes-E S (S .n) ≡ true
+    n-passes-E = let m = meets S ok in passes-E-iff (S .n) .1 (m .E-below)
+
+    pub n-passes-bound : passes-bound S (S .n) ≡ true
+    n-passes-bound =
+        let m = meets S ok in passes-bound-iff (S .n) .1 (m .T-below, alpha-below-n, omega arith)
+
     -- all stations and alpha together pass E
     pub all-pass-E : passes-E S (S .n + S .alpha) ≡ true
-    all-pass-E = let m = meets S ok in passes-E-iff (S .n + S .alpha) .1 (omega arith)
+    all-pass-E = more-pass-E (S .n) (S .n + S .alpha) (omega arith) n-passes-E
 
-    -- alpha alone does not
+    -- alpha alone does not pass E
     pub alpha-not-E : passes-E S (S .alpha) ≡ true → ⊥
     alpha-not-E x = let m = meets S ok in omega (arith, passes-E-iff (S .alpha) .0 x)
 

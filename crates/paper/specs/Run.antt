@@ -6,7 +6,7 @@ use mathlib.Core.Bool.{true}
 use mathlib.Core.List.{List, [], _∷_}
 use Prim.Native.Nat.{ℕ, suc}
 use Rattle.paper.specs.Stations.{All, size}
-use Rattle.paper.specs.Heard.{Message, query, Matrix, SHO, AHO}
+use Rattle.paper.specs.Heard.{Message, query, heard, Matrix, SHO, AHO}
 use Rattle.paper.specs.Setup.{U, Setup, tolerated, passes-bound}
 use Rattle.paper.specs.Rules.{Station, undecided, Kind, kind-of, sends, after, Fires}
 
@@ -48,6 +48,11 @@ kind S t = kind-of (S .algorithm) (t .number)
 unfoldable pub sent : Setup → Turn → ℕ → Message
 unfolding kind sends
 sent S t q = sends (kind S t) (t .before q)
+
+-- every station hears from every station just what that one ought to send
+unfoldable pub AsSent : Setup → Turn → Type 0
+unfolding sent
+AsSent S t = All (S .n) (λ p. All (S .n) (λ q. t .heard p q ≡ heard (sent S t q)))
 
 -- equation (2), at one round: |AHO(p)| <= alpha for every p
 unfoldable pub P-alpha : Setup → Turn → Type 0

@@ -1,13 +1,15 @@
--- What the paper proves of its runs, as statements: its Propositions 1, 2, 5 and 6 and its Lemmas 5 and 9, and what is
+-- What the paper proves of its runs, as statements: its Propositions 1, 2, 5 and 6, its Lemmas 5, 8 and 9, and what is
 -- kept of a decision. Each speaks of the rounds of a run (rules 16.2 to 16.6).
 use mathlib.Core.Path.{_≡_}
 use mathlib.Core.Bool.{true}
 use mathlib.Core.List.{List, List·Memᴰ}
-use Prim.Native.Nat.{ℕ, _+_, _≤_, _<_}
+use mathlib.Core.Logic.{_⊎_}
+use Prim.Native.Nat.{ℕ, suc, _+_, _≤_, _<_}
 use lib.Dec.{eqb}
 use Rattle.paper.specs.Stations.{Stations, All, size}
-use Rattle.paper.specs.Setup.{Algorithm, A, U, Setup, acceptable, passes-E}
-use Rattle.paper.specs.Rules.{undecided, decided}
+use Rattle.paper.specs.Heard.{val, HO}
+use Rattle.paper.specs.Setup.{Algorithm, A, U, Setup, acceptable, passes-T, passes-E}
+use Rattle.paper.specs.Rules.{decided}
 use Rattle.paper.specs.Run.{States, Turn, Run, Safe, FiresAt}
 
 -- the round t is among the rounds ts
@@ -54,6 +56,34 @@ unfoldable pub Integrity : Setup → (ℕ → ℕ) → List Turn → Type 0
 Integrity S starts ts =
     (v : ℕ) → All (S .n) (λ p. starts p ≡ v) → (t : Turn) (p w : ℕ) → t among ts → p < S .n → FiresAt S t p w → w ≡ v
 
+-- ---- the lemmas on the way, each of the algorithm that it is about
+-- Lemma 5: under A whoever hears more than T, in the round of a firing or in a later one, takes the value of the firing
+unfoldable pub Lemma-5 : Setup → List Turn → Type 0
+Lemma-5 S ts =
+    S .algorithm ≡ A → (t u : Turn) (p q v : ℕ) → t among ts → u among ts
+    → t .number ≤ u .number → p < S .n → q < S .n → FiresAt S t p v
+    → passes-T S (size (S .n) (HO (u .heard q))) ≡ true → u .after q .estimate ≡ v
+
+-- Lemma 8, first part: under U the votes that a round leaves name one value
+unfoldable pub Lemma-8-votes : Setup → List Turn → Type 0
+Lemma-8-votes S ts =
+    S .algorithm ≡ U → (t : Turn) (p q v w : ℕ) → t among ts
+    → p < S .n → q < S .n → t .after p .vote ≡ val v → t .after q .vote ≡ val w → v ≡ w
+
+-- second part: where one round leaves a vote for v, the next leaves each station with v or with the default
+unfoldable pub Lemma-8-estimates : Setup → ℕ → List Turn → Type 0
+Lemma-8-estimates S default ts =
+    S .algorithm ≡ U → (t u : Turn) (p q v : ℕ) → t among ts → u among ts
+    → u .number ≡ suc (t .number) → p < S .n → q < S .n → t .after p .vote ≡ val v
+    → (u .after q .estimate ≡ v) ⊎ (u .after q .estimate ≡ default)
+
+-- Lemma 9: under U every station holds v at the end of a round in which the rule fires for v
+unfoldable pub Lemma-9 : Setup → List Turn → Type 0
+Lemma-9 S ts =
+    S .algorithm ≡ U → (t : Turn) (p q v : ℕ) → t among ts
+    → p < S .n → q < S .n → FiresAt S t p v → t .after q .estimate ≡ v
+
+-- ---- decisions
 -- the round t is the first of ts in which the rule fires at p, and it fires for v
 pub record FirstFiring (S : Setup) (ts : List Turn) (p v : ℕ) (t : Turn) : Type 0 where
   pub in-run : t among ts
@@ -66,8 +96,8 @@ Kept S ts =
     (u : Turn) (p v r : ℕ) → u among ts → p < S .n → u .after p .decision ≡ decided v r
     → (t : Turn) × FirstFiring S ts p v t × (t .number ≡ r) × (r ≤ u .number)
 
--- and a station at which the rule has fired is decided from then on
+-- and a station at which the rule has fired has, from then on, its first firing's value and round (rule 16.6)
 unfoldable pub Decides : Setup → List Turn → Type 0
 Decides S ts =
     (t u : Turn) (p v : ℕ) → t among ts → u among ts → t .number ≤ u .number → p < S .n → FiresAt S t p v
-    → ¬ (u .after p .decision ≡ undecided)
+    → (w : ℕ) × (t₀ : Turn) × FirstFiring S ts p w t₀ × (u .after p .decision ≡ decided w (t₀ .number))

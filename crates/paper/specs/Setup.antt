@@ -44,10 +44,9 @@ E-below-n S = ltb (S .E) (S .n)
 unfoldable pub T-below-n : Setup → Bool
 T-below-n S = ltb (S .T) (S .n)
 
--- T >= 2(n + 2 alpha - E) under A (Theorem 1; with E below n nothing is cut off at 0); 2T >= n + 2 alpha under U
--- (Theorem 2)
+-- T >= 2(n + 2 alpha - E) under A (Theorem 1), with 2E on both sides; 2T >= n + 2 alpha under U (Theorem 2)
 unfoldable pub T-enough : Algorithm → Setup → Bool
-T-enough A S = leb (2 * (S .n + 2 * S .alpha - S .E)) (S .T)
+T-enough A S = leb (2 * (S .n + 2 * S .alpha)) (S .T + 2 * S .E)
 T-enough U S = leb (S .n + 2 * S .alpha) (2 * S .T)
 
 -- 2E >= n + 2 alpha (Theorem 2; under A it follows from the others)
@@ -64,7 +63,8 @@ unfoldable pub acceptable : Setup → Bool
 unfolding acceptable-for
 acceptable S = acceptable-for (S .algorithm) S
 
--- the right side of equation (7): T, alpha or n + 2 alpha - E - 1, whichever is greatest (T, in acceptable setups of U)
+-- the right side of equation (7): T, alpha or n + 2 alpha - E - 1, whichever is greatest (T, in acceptable setups of
+-- U). A difference below 0 counts as 0, and T is no less: `passes-bound-iff` says the same with nothing subtracted
 unfoldable pub safe-bound : Setup → ℕ
 safe-bound S = max (max (S .n + 2 * S .alpha - S .E - 1) (S .T)) (S .alpha)
 

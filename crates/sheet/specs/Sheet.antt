@@ -1,6 +1,7 @@
--- The bench sheet as one table over bytes: cases 1 to 15, and some on the edge of a threshold. Each opening and each
--- round is spelled in bytes; `read-opening` and `step-of`, which the promises of `Run::open` and `step` cite, say what
--- is answered to them, and the test compares that with the table. proofs/Sheet.antt has the checker do so.
+-- The bench sheet as one table over bytes: cases 1 to 15, some on the edge of a threshold, and rounds with several
+-- things wrong. Each opening and each round is spelled in bytes; `read-opening` and `step-of`, which the promises of
+-- `Run::open` and `step` cite, say what is answered to them, and the test compares that with the table. proofs/Sheet.antt
+-- has the checker do so.
 use Prim.Native.Nat.{ℕ, suc}
 use mathlib.Core.Bool.{Bool, true, false, _&&_}
 use mathlib.Core.List.{List, [], _∷_, _++_, map}
@@ -13,6 +14,7 @@ use Rattle.limits.specs.declared.Setup.{Setup}
 use Rattle.run.specs.declared.Run.{Run}
 use Rattle.run.specs.Opening.{opening, read-opening}
 use Rattle.run.specs.Reply.{number-of, place-of}
+use Rattle.run.specs.Run.{run-to, run-of, at-start, idle}
 use Rattle.run.specs.Written.{written}
 use Rattle.round.specs.declared.Cell.{Cell}
 use Rattle.round.specs.declared.Cell.the-variants.{Lost, Value, Query}
@@ -36,11 +38,12 @@ pub data Expected : Type 0 where
   refused-with : Rows → ℕ → ℕ → Expected
 
 -- bytes written out, and the bytes that they ought to be; a setup, and the number of the reply to an opening with it;
--- or a run: setup, default, starts, the rounds in a row, and what the stations have decided at the end, the values and
--- then their rounds
+-- a run in memory, the bytes of a round, and the number and place of the reply to them; or a run: setup, default,
+-- starts, the rounds in a row, and what the stations have decided at the end, the values and then their rounds
 pub data Case : Type 0 where
   spells : List ℕ → List ℕ → Case
   setup-gets : Setup → ℕ → Case
+  round-gets : Run → List ℕ → ℕ → ℕ → Case
   runs : Setup → ℕ → List ℕ → List Expected → List Mark → List ℕ → Case
 
 -- the bytes of the rows, the first of which is that of receiver p
@@ -92,6 +95,7 @@ unfoldable pub agrees : Case → Bool
 unfolding opening read-opening answers-all
 agrees (spells bs cs) = eqb (length bs) (length cs) && lists bs cs
 agrees (setup-gets setup number) = is-reply (read-opening (opening setup 0 []) .reply) number 0
+agrees (round-gets run bs number place) = is-reply (step-of run bs .reply) number place
 agrees (runs setup default starts expected decisions rounds) =
     let o = read-opening (opening setup default starts) in
     is-reply (o .reply) 0 0 && answers-all (o .run) expected decisions rounds
@@ -295,10 +299,47 @@ two-lose = but 4 0 Lost one-loses
 abbrev four-lose : Rows
 four-lose = but 2 0 Lost (but 3 0 Lost two-lose)
 
+-- station 2 hears too few, and those before it enough
+abbrev unsafe-at-2 : Case
+unsafe-at-2 =
+    runs (U 6 4 4 1) 0 (all 6 3) (refused-with (but 2 1 Lost (but 2 4 Lost (all-hear (all 6 (Value 3))))) 7 2 ∷ [])
+    (all 6 none) (all 6 0)
+
+-- A(3,2,2,0) after so many rounds, all at 5, and the round in which all hear that
+abbrev standing : ℕ → Run
+standing clock = run-of (A 3 2 2 0) 0 clock (λ i. at-start 5)
+
+abbrev nine : List ℕ
+nine = bytes (all-hear (cells-of (5 ∷ 5 ∷ 5 ∷ [])))
+
+-- replies to a round, where several things are wrong or the place is not in row 0. A "?" with a number beside it is a 2
+-- and not a 5; byte 3 of record 7 is not zero; a "?" in record 5; a full run is told before any length; a run that is
+-- not good before all else, be it the idle one or one past the last round
+abbrev rounds-get : List Case
+rounds-get =
+    round-gets (standing 0) nine 0 0
+    ∷ round-gets (standing 0) (set (set nine 8 5) 12 1) 2 1
+    ∷ round-gets (standing 0) (set (set nine 8 5) 12 0) 5 1
+    ∷ round-gets (standing 0) (set nine 59 1) 2 7
+    ∷ round-gets (standing 0) (bytes (but 1 2 Query (all-hear (cells-of (5 ∷ 5 ∷ 5 ∷ []))))) 5 5
+    ∷ round-gets (standing 0) (set (bytes (but 1 2 Query (all-hear (cells-of (5 ∷ 5 ∷ 5 ∷ []))))) 59 1) 5 5
+    ∷ round-gets (standing 0) (set (bytes (but 2 2 Query (all-hear (cells-of (5 ∷ 5 ∷ 5 ∷ []))))) 59 1) 2 7
+    ∷ round-gets (standing 0) (nine ++ 0 ∷ []) 1 0
+    ∷ round-gets (standing 4095) nine 0 0
+    ∷ round-gets (standing 4096) nine 8 0
+    ∷ round-gets (standing 4096) (nine ++ 0 ∷ []) 8 0
+    ∷ round-gets (standing 4096) [] 8 0
+    ∷ round-gets (standing 4097) nine 10 0
+    ∷ round-gets (standing 4097) [] 10 0
+    ∷ round-gets idle nine 10 0
+    ∷ round-gets idle [] 10 0
+    ∷ []
+
 unfoldable pub sheet : List Case
 sheet =
     spellings
     ++ setups
+    ++ rounds-get
     ++ (case-9
     ∷ case-10 5 9 7
     ∷ case-10 9 5 7
@@ -310,6 +351,7 @@ sheet =
     ∷ case-14 0 (1 ∷ 1 ∷ 1 ∷ 1 ∷ 2 ∷ 2 ∷ []) Query
     ∷ case-14 0 (1 ∷ 1 ∷ 1 ∷ 2 ∷ 2 ∷ 2 ∷ []) (Value 7)
     ∷ case-15
+    ∷ unsafe-at-2
     ∷ decides-unheld
     ∷ few-hold
     ∷ most-frequent

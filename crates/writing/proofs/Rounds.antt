@@ -84,11 +84,11 @@ module _ (n : ℕ) (m : Matrix) (small : n ≤ stations) (holds : IsMatrix m) wh
       go true false e f = let above : n ≤ q = ltb-false q n f in out (λ ip iq. omega arith)
       go false t e f = let above : n ≤ p = ltb-false p n e in out (λ ip iq. omega arith)
 
--- a matrix that can be written is read again
-pub written-read : (run : Run) (m : Matrix) → IsMatrix m → check-writing run m (round-length (run .setup .n)) ≡ Accepted
+-- the bytes of a matrix that can be written are read as that matrix
+bytes-read : (run : Run) (m : Matrix) (room : ℕ) → IsMatrix m → check-writing run m room ≡ Accepted
     → read-round run (rows-bytes (run .setup .n) (run .setup .n) m) ≡ record { reply = Accepted; matrix = m }
-written-read run m holds e =
-    let (good, queries, lost, room) = writing-iff run m _ .0 e in
+bytes-read run m room holds e =
+    let (good, queries, lost, fits) = writing-iff run m room .0 e in
     let n = run .setup .n in
     let small = few-stations run good in
     let bs = rows-bytes n n m in
@@ -101,6 +101,12 @@ written-read run m holds e =
     sym (reading-done run bs (sym accepted) accepted
     (matrix-again m (holds .places) ∙ matrix-same _ _
     (λ p q lp lq. sym (written-cells n m small holds lost p q lp lq))))
+
+-- so a buffer that was written is read again (rule 4.10)
+pub written-read : (run : Run) (m : Matrix) (buffer : List ℕ) → IsMatrix m
+    → check-writing run m (length buffer) ≡ Accepted
+    → read-round run (write-round run m buffer) ≡ record { reply = Accepted; matrix = m }
+written-read run m buffer holds e = rw (← writing-done run m buffer e) (bytes-read run m (length buffer) holds e)
 
 -- ---- writing what was read
 -- the matrix that is read

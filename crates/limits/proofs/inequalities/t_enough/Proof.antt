@@ -1,14 +1,12 @@
--- `limits::inequalities::t_enough` meets its contract: in each case it is the definition's own inequality, with 2E
--- added on both sides under A.
+-- `limits::inequalities::t_enough` meets its contract: in each case it is the definition's own inequality.
 use borrow.Author.Needs.{needs}
 use Rattle.paper.specs.Setup.{T-enough}
 use Rattle.limits.specs.Setup.{setup-of}
-use Rattle.paper.proofs.Setups.{T-enough-A}
 use Rattle.limits.proofs.inequalities.t_enough.Statement.{statement}
 use Rattle.limits.proofs.inequalities.t_enough.Tie as tie
 
 returns : tie.Need-returns
-unfolding setup-of
+unfolding T-enough setup-of
 returns c =
     let told = c .before .before .before in
     rw (
@@ -17,7 +15,7 @@ returns c =
       c .wide2 .ensures,
       ← told .before .before .algorithm-of .ensures,
       told .enum-told .given .1,
-    ) (T-enough-A _)
+    )
 
 returns-2 : tie.Need-returns-2
 unfolding T-enough setup-of
