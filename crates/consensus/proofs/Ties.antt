@@ -1,10 +1,11 @@
 -- The numbers are the definitions' own, and a record that spells a cell is read as that cell.
 use mathlib.Core.Path.{_≡_, refl, ap, sym, _∙_}
+use mathlib.Core.Bool.{Bool, false}
 use mathlib.Core.List.{List}
 use mathlib.Core.Logic.{_⊎_, inl, inr, ⊎-elim}
 use Prim.Native.Nat.{ℕ, _+_, _*_, _<_, _≤_}
 use native.Mathlib.Nat.{add-assoc}
-use lib.ListN.{length}
+use lib.ListN.{length, length-replicate}
 use native.Mathlib.Decide.{decLe}
 use native.Mathlib.Omega.{arith}
 use Rattle.paper.specs.Heard as heard
@@ -12,6 +13,8 @@ use Rattle.run.specs.declared.Run.{Run}
 use Rattle.run.specs.declared.record.Record.{Record}
 use Rattle.run.specs.Record.{record-at, record-from}
 use Rattle.run.specs.Reply.{is-accepted}
+use Rattle.run.specs.Run.{stations, idle, run-to, station-at}
+use Rattle.run.proofs.Machines.{idle-machine}
 use Rattle.run.proofs.Number.{number-four}
 use Rattle.run.proofs.Records.{record-at-in}
 use Rattle.run.proofs.Replies.{accepted-is}
@@ -20,13 +23,14 @@ use Rattle.image.specs.Image.{image}
 use Rattle.image.proofs.Images.{length-image, saving-accepted, saved-image}
 use Rattle.round.specs.declared.Cell.{Cell}
 use Rattle.round.specs.declared.Cell.the-variants as cell
-use Rattle.round.specs.Cells.{cell-record, cell-in}
+use Rattle.round.specs.declared.Slot.{Slot}
+use Rattle.round.specs.Cells.{empty, cell-record, cell-in}
 use Rattle.round.specs.Bridge.{paper-cell, heard-in}
 use Rattle.round.proofs.Matrices.{cell-inside}
 use Rattle.round.proofs.Spelling.{cell-record-in}
 use Rattle.consensus.specs.Round.{round-by-paper, cell-at}
-use Rattle.consensus.specs.Ties.{Numbers, AcceptsAlone, RecordAt, ImageSpelled, Heard}
-use Rattle.consensus.proofs.Outside.{no-receiver, no-sender}
+use Rattle.consensus.specs.Ties.{Numbers, AcceptsAlone, RecordAt, ImageSpelled, Nothing, Heard}
+use Rattle.consensus.proofs.Outside.{filled-everywhere, replicate-everywhere, no-receiver, no-sender}
 use Rattle.consensus.proofs.Spelled.{image-saved}
 
 pub numbers : Numbers
@@ -80,6 +84,29 @@ module _ (run : Run) (bs : List ℕ) where
         lost = λ p q lp lq e. spelled p q cell.Lost lp lq e;
         outside = outside;
       }
+
+-- ---- what a refusal gives
+idle-station : (i : ℕ) → station-at idle i
+    ≡ record { estimate = 0; voted = false; vote = 0; decided = false; decision = 0; round = 0 }
+unfolding idle run-to
+idle-station i =
+    rw (
+      filled-everywhere {A = ℕ} 0 (λ j. 0) 0 (omega arith) (λ j h. refl) i,
+      filled-everywhere {A = Bool} 0 (λ j. false) false (omega arith) (λ j h. refl) i,
+    )
+
+pub nothing-there : Nothing
+unfolding idle run-to
+nothing-there =
+    record {
+      setup = refl;
+      default = refl;
+      clock = refl;
+      station = idle-station;
+      machine = idle-machine;
+      lost = λ p q. ap (λ (s : Slot). s .cell) (replicate-everywhere (stations * stations) empty (stations * p + q));
+      cells = length-replicate (stations * stations) empty;
+    }
 
 pub accepts-alone : AcceptsAlone
 accepts-alone r = (accepted-is r, λ e. ap is-accepted e)

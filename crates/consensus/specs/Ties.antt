@@ -2,10 +2,10 @@
 -- paper's round to the records that spell it. That it is so is proved in proofs/Ties.antt.
 use mathlib.Core.Path.{_≡_}
 use mathlib.Core.List.{List}
-use mathlib.Core.Bool.{true}
+use mathlib.Core.Bool.{true, false}
 use mathlib.Core.Logic.{_↔_}
 use Prim.Native.Nat.{ℕ, _+_, _*_, _^_, _<_}
-use lib.ListN.{getD}
+use lib.ListN.{length, getD}
 use Rattle.paper.specs.Heard as heard
 use Rattle.limits.specs.Setup.{byte-A, byte-U}
 use Rattle.run.specs.declared.Run.{Run}
@@ -17,10 +17,11 @@ use Rattle.run.specs.Keeps.{Keeps}
 use Rattle.run.specs.Machine.{Machine}
 use Rattle.run.specs.Record.{record-bytes, record-at}
 use Rattle.run.specs.Reply.{number-of, place-of, is-accepted}
-use Rattle.run.specs.Run.{stations, most-rounds}
+use Rattle.run.specs.Run.{stations, most-rounds, idle, station-at}
 use Rattle.image.specs.Image.{image}
 use Rattle.round.specs.declared.Cell.the-variants as cell
 use Rattle.round.specs.Cells.{cell-record}
+use Rattle.round.specs.Reading.{all-lost, cell-of}
 use Rattle.switch.specs.Switch.{answer-of}
 use Rattle.consensus.specs.Round.{round-by-paper, cell-at}
 use Rattle.consensus.specs.Spelled.{ImageOf}
@@ -69,6 +70,18 @@ pub record RecordAt (bs : List ℕ) (k : ℕ) : Type 0 where
 -- the bytes of a good run's image are that, record by record
 abbrev pub ImageSpelled : Type 0
 ImageSpelled = (run : Run) → Keeps run → Machine run → ImageOf run (image run) × IsBytes (image run)
+
+-- what a refusal gives: the idle run, in which each number is 0 and nothing is there (rule 5.10), and a matrix in which
+-- every cell is lost (12.5)
+pub record Nothing : Type 0 where
+  pub setup : idle .setup ≡ record { algorithm = 0; n = 0; t = 0; e = 0; alpha = 0 }
+  pub default : idle .default ≡ 0
+  pub clock : idle .clock ≡ 0
+  pub station : (i : ℕ) → station-at idle i
+      ≡ record { estimate = 0; voted = false; vote = 0; decided = false; decision = 0; round = 0 }
+  pub machine : Machine idle
+  pub lost : (p q : ℕ) → cell-of all-lost p q ≡ cell.Lost
+  pub cells : length (all-lost .slots) ≡ stations * stations
 
 -- what p heard of q is what their record spells, and nothing outside n by n (rules 4.1, 4.5 and 4.7)
 pub record Heard (run : Run) (bs : List ℕ) : Type 0 where
