@@ -113,10 +113,6 @@ module _ (P : Reply → Type 0) where
           let (l, here, before) = first-some f n i .0 e in
           subst P (sym (then-stop (r i) s (refuses i))) (stop i l here before)
 
--- nothing to ask at the end
-pub then-end : (r : Reply) → (r then Accepted) ≡ r
-then-end r = then-by (λ (s : Reply). s ≡ r) r Accepted (λ e. refl) sym
-
 -- a test that fails, from what it would tell
 pub unless : (b : Bool) → (b ≡ true → ⊥) → b ≡ false
 unless true h = absurd (h refl)

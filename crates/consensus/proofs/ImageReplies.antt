@@ -28,7 +28,7 @@ use Rattle.run.specs.Run.{most-rounds, station-at, may-vote, vote-fits, may-dec
 use Rattle.run.specs.Block.{plain, is-plain, record-of, block-fits, check-block}
 use Rattle.run.specs.Opening.{setup-in, check-head, check-default}
 use Rattle.run.proofs.First.{first-none, first-some}
-use Rattle.run.proofs.Replies.{then-stop, refused-isn't}
+use Rattle.run.proofs.Replies.{then-stop, refused-isn't, then-end}
 use Rattle.run.proofs.Blocks.{
   is-plain-plain,
   plain-is,
@@ -38,7 +38,7 @@ use Rattle.run.proofs.Blocks.{
   fits-at,
   check-block-accepted,
 }
-use Rattle.run.proofs.Sound.{sound-iff}
+use Rattle.run.proofs.Sound.{may-decide-keeps, keeps-may-decide, sound-iff}
 use Rattle.image.specs.Image.{
   votes-from,
   decisions-from,
@@ -72,7 +72,7 @@ use Rattle.consensus.specs.ImageReplies.{
   ImageReply,
   SaveReply,
 }
-use Rattle.consensus.proofs.Asking.{then-by, test-by, test-then, search-by, search-then, then-end, unless}
+use Rattle.consensus.proofs.Asking.{then-by, test-by, test-then, search-by, search-then, unless}
 use Rattle.consensus.proofs.OpeningReplies.{
   headed-iff,
   head-by,
@@ -195,26 +195,12 @@ vote-iff s clock true = (
 )
 vote-iff s clock false = (λ e h. absurd (false≢true h), λ h. refl)
 
-even-iff : (u even : Bool) → ((not u || even) ≡ true) ↔ (u ≡ true → even ≡ true)
-even-iff true even = (λ e h. e, λ h. h refl)
-even-iff false even = (λ e h. absurd (false≢true h), λ h. refl)
-
 decided-iff : (s : Setup) (clock round : ℕ)
     → (decision-fits s clock true round ≡ true)
     ↔ ((1 ≤ round) × (round ≤ clock) × (s .algorithm ≡ byte-U → round % 2 ≡ 0))
-unfolding decision-fits may-decide
-decided-iff s clock round = (
-  λ e.
-      let (bounds, even) = both _ _ e in
-      let (from, to) = both _ _ bounds in (
-        leb-true _ _ from,
-        leb-true _ _ to,
-        λ u. eqb-true _ _ (even-iff (is-U s) _ .0 even (eq-eqb _ _ u)),
-      ),
-  λ h.
-      rw (le-leb _ _ (h .0), le-leb _ _ (h .1))
-      (even-iff (is-U s) _ .1 (λ u. eq-eqb _ _ (h .2 (eqb-true _ _ u)))),
-)
+unfolding decision-fits
+decided-iff s clock round =
+    (may-decide-keeps s clock round, λ h. keeps-may-decide s clock round (h .0) (h .1) (h .2))
 
 undecided-iff : (s : Setup) (clock round : ℕ) → (decision-fits s clock false round ≡ true) ↔ (round ≡ 0)
 unfolding decision-fits

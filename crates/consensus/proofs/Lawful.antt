@@ -25,6 +25,7 @@ use Rattle.judge.proofs.Stations.{station-next}
 use Rattle.judge.proofs.Steps.{Passed, passed, setup-same, default-same, clock-next}
 use Rattle.play.specs.Play.{take-rounds}
 use Rattle.consensus.specs.Offered.{Offer, run-then, rounds-in, round-by-judge, taken, accepted}
+use Rattle.consensus.proofs.RoundReplies.{under-U}
 use Rattle.consensus.proofs.Taken.{then-taken, then-on}
 
 module _ (run : Run) (bs : List ℕ) (ok : Passed run bs) where
@@ -62,12 +63,8 @@ module _ (run : Run) (bs : List ℕ) (ok : Passed run bs) where
             subst
             (λ (r : ℕ). setup.passes-bound (paper-setup run)
             (size (run .setup .n) (heard.SHO (heard-in (run .setup .n) bs p) (SentIn r))) ≡ true)
-            (add-one (run .clock)) (ok .enough (is-U-of (is-U (run .setup)) u) p h);
+            (add-one (run .clock)) (ok .enough (under-U (is-U (run .setup)) u) p h);
       }
-    where
-      is-U-of : (b : Bool) → cond b setup.U setup.A ≡ setup.U → b ≡ true
-      is-U-of true e = refl
-      is-U-of false e = let z : _≡_ {A = ℕ} 0 1 = cc in absurd (omega arith)
 
 -- the rounds ts follow one another from this run on, and each keeps the predicates
 abbrev From : Run → List paper.Turn → Type 0

@@ -5,7 +5,6 @@ use mathlib.Core.Bool.{Bool, true, false, not, _&&_, false≢true}
 use mathlib.Core.List.{List}
 use mathlib.Core.Logic.{_↔_, _⊎_, inl, inr, ⊎-elim}
 use Prim.Native.Nat.{ℕ, _+_, _*_, _≤_, _<_}
-use native.Mathlib.Decide.{ℕ-discrete}
 use native.Mathlib.Omega.{arith}
 use lib.ListN.{length}
 use lib.Dec.{eqb, leb}
@@ -38,7 +37,7 @@ use Rattle.run.specs.Opening.{
   check-write,
 }
 use Rattle.run.proofs.First.{first-some}
-use Rattle.run.proofs.Replies.{accepted-is, refused-isn't}
+use Rattle.run.proofs.Replies.{accepted-is, refused-isn't, then-end}
 use Rattle.run.proofs.Blocks.{is-plain-plain, plain-is, fits-at, check-block-accepted, check-block-refused}
 use Rattle.run.proofs.Heads.{
   check-setup-is,
@@ -52,6 +51,7 @@ use Rattle.run.proofs.Heads.{
   default-fits-iff,
 }
 use Rattle.run.proofs.Openings.{check-opening-is, check-write-is}
+use Rattle.run.proofs.Sound.{either-is}
 use Rattle.run.proofs.Starts.{starts-end-iff}
 use Rattle.consensus.specs.OneReply.{Only}
 use Rattle.consensus.specs.OpeningReplies.{
@@ -66,21 +66,16 @@ use Rattle.consensus.specs.OpeningReplies.{
   StartsEnd,
   WriteOpeningReply,
 }
-use Rattle.consensus.proofs.Asking.{then-by, test-by, test-then, then-end, unless}
+use Rattle.consensus.proofs.Asking.{then-by, test-by, test-then, unless}
 
 -- ---- a setup
 range-iff : (s : Setup) → (in-range s ≡ true) ↔ InRange s
 range-iff s = (there, back)
   where
-    one-of : byte-A ≤ s .algorithm → s .algorithm ≤ byte-U → Dec (s .algorithm ≡ byte-A)
-        → (s .algorithm ≡ byte-A) ⊎ (s .algorithm ≡ byte-U)
-    one-of low high (yes a) = inl a
-    one-of low high (no other) = inr (omega (arith, low, high, other))
-
     there : in-range s ≡ true → InRange s
     there e =
         let (low, high, from, to) = in-range-iff s .0 e in
-        record { algorithm = one-of low high (ℕ-discrete (s .algorithm) byte-A); n-from = from; n-to = to }
+        record { algorithm = either-is s low high; n-from = from; n-to = to }
 
     bounds : (s .algorithm ≡ byte-A) ⊎ (s .algorithm ≡ byte-U) → (byte-A ≤ s .algorithm) × (s .algorithm ≤ byte-U)
     bounds (inl a) = (omega (arith, a), omega (arith, a))

@@ -36,7 +36,7 @@ use Rattle.run.specs.Keeps.{Keeps}
 use Rattle.run.specs.Record.{record-at}
 use Rattle.run.specs.Reply.{is-accepted, _then_, or-refuse}
 use Rattle.run.specs.Run.{most-rounds, sound}
-use Rattle.run.proofs.Replies.{then-on, then-stop, or-refuse-accepted, refused-isn't}
+use Rattle.run.proofs.Replies.{then-on, then-stop, or-refuse-accepted, refused-isn't, then-end}
 use Rattle.run.proofs.Sound.{sound-iff}
 use Rattle.limits.specs.Setup.{is-U, setup-of}
 use Rattle.round.specs.declared.Cell.{Cell}
@@ -67,7 +67,7 @@ use Rattle.consensus.specs.Round.{
   safe-at,
 }
 use Rattle.consensus.specs.RoundReplies.{StepReply, ReadReply}
-use Rattle.consensus.proofs.Asking.{then-by, test-by, test-then, turn-then, turn-by, then-end, unless, test-false}
+use Rattle.consensus.proofs.Asking.{then-by, test-by, test-then, turn-then, turn-by, unless, test-false}
 
 -- ---- the kind of the next round
 vote-by : (b u : Bool) → (cond b rules.vote (cond u rules.value rules.update) ≡ rules.vote) ↔ (b ≡ true)
@@ -85,7 +85,7 @@ next-votes run =
     (λ e. iff .0 (sym told ∙ e), λ e. told ∙ iff .1 e)
 
 -- ---- a predicate that is asked under U alone
-under-U : (b : Bool) → cond b setup.U setup.A ≡ setup.U → b ≡ true
+pub under-U : (b : Bool) → cond b setup.U setup.A ≡ setup.U → b ≡ true
 under-U true e = refl
 under-U false e = absurd (A-not-U e)
 

@@ -7,8 +7,6 @@ use Prim.Native.Nat.{ℕ, _+_, _*_, _/_, _%_, _^_, _≤_, _<_}
 use native.Mathlib.Omega.{arith}
 use lib.ListN.{length, getD}
 use Rattle.limits.specs.declared.Setup.{Setup}
-use Rattle.limits.specs.Setup.{byte-A, byte-U}
-use Rattle.limits.proofs.Parts.{parts-below}
 use Rattle.run.specs.declared.Run.{Run}
 use Rattle.run.specs.declared.Station.{Station}
 use Rattle.run.specs.declared.Opened.{Opened}
@@ -39,7 +37,7 @@ use Rattle.run.specs.Opening.{
 use Rattle.run.proofs.Blocks.{KindsFit, plain-is, plain-fits, record-of-fits}
 use Rattle.run.proofs.Bytes.{bytes-append, bytes-nil}
 use Rattle.run.proofs.Filled.{length-tabulate}
-use Rattle.run.proofs.Heads.{check-setup-accepted, head-bytes-is, in-range-iff}
+use Rattle.run.proofs.Heads.{accepted-fits, check-setup-accepted, head-bytes-is, in-range-iff}
 use Rattle.run.proofs.Number.{number-four}
 use Rattle.run.proofs.Openings.{
   opening-accepted,
@@ -119,13 +117,6 @@ module _ (bs : List ℕ) (bytes : IsBytes bs) (long : record-bytes ≤ length bs
         byte-7 = omega (arith, number, zeros);
       }
 
--- the record of a setup whose parts are bytes
-setup-record-fits : (s : Setup)
-    → (byte-A ≤ s .algorithm) × (s .algorithm ≤ byte-U) × (1 ≤ s .n) × (s .n ≤ stations)
-    → (s .t < s .n) × (s .e < s .n) × (s .alpha < s .n) → Fits (setup-record s)
-unfolding setup-record
-setup-record-fits s bounds parts = omega arith
-
 head-is-bytes : (s : Setup) (d : ℕ) → Fits (setup-record s) → d < 2 ^ 32 → IsBytes (head-bytes s d)
 head-is-bytes s d fits small =
     rw head-bytes-is
@@ -162,10 +153,7 @@ module _ (bs : List ℕ) (bytes : IsBytes bs) (taken : is-accepted (read-opening
 module _ (s : Setup) (d : ℕ) (starts buffer : List ℕ) (fits : d < 2 ^ 32) (words : Words starts)
     (e : check-write s d starts (length buffer) ≡ Accepted) where
   setup-fits : Fits (setup-record s)
-  setup-fits =
-      let w = writing-accepted s d starts (length buffer) .0 e in
-      let (range, meets) = check-setup-accepted s .0 (w .set-up) in
-      setup-record-fits s (in-range-iff s .0 range) (parts-below s meets)
+  setup-fits = accepted-fits s (writing-accepted s d starts (length buffer) .0 e .set-up) .2
 
   opening-bytes : IsBytes (write-opening s d starts buffer)
   opening-bytes =
@@ -213,14 +201,16 @@ module _ (bs : List ℕ) (bytes : IsBytes bs) (taken : is-accepted (loaded bs .r
   vote-told : (p : ℕ) → p < m → (b : Bool) → station-at (run-in bs) p .voted ≡ b
       → record-at bs (votes-from m + p) ≡ record-of votes-shape p b (station-at (run-in bs) p .vote)
   vote-told p l b e =
-      spells bs load-ok .1 .0 p l
+      let (_, (votes, _)) = spells bs load-ok in
+      votes p l
       ∙ ap (λ (x : Station). record-of votes-shape p (x .voted) (x .vote)) (sym (held p l))
       ∙ ap (λ (c : Bool). record-of votes-shape p c (station-at (run-in bs) p .vote)) e
 
   decision-told : (p : ℕ) → p < m → (b : Bool) → station-at (run-in bs) p .decided ≡ b
       → record-at bs (decisions-from m + p) ≡ record-of decisions-shape p b (station-at (run-in bs) p .decision)
   decision-told p l b e =
-      spells bs load-ok .1 .1 .0 p l
+      let (_, (_, (decisions, _))) = spells bs load-ok in
+      decisions p l
       ∙ ap (λ (x : Station). record-of decisions-shape p (x .decided) (x .decision)) (sym (held p l))
       ∙ ap (λ (c : Bool). record-of decisions-shape p c (station-at (run-in bs) p .decision)) e
 
@@ -235,6 +225,7 @@ module _ (bs : List ℕ) (bytes : IsBytes bs) (taken : is-accepted (loaded bs .r
   unfolding record-of run-in
   image-spelled =
       let head = form .headed .there in
+      let (estimates, (_, (_, (rounds, _)))) = spells bs load-ok in
       let first = default-placed (setup-in bs) (record-at bs 1) (form .in-place 1 (omega arith) (omega arith)) in
       record {
         long = form .long;
@@ -242,13 +233,13 @@ module _ (bs : List ℕ) (bytes : IsBytes bs) (taken : is-accepted (loaded bs .r
         default = own-number kind.DEFAULT 0 (first .0) (record-at bs 1) (first .1);
         clock = plain-is kind.CLOCK 0 (record-at bs 2)
             (clock-placed (setup-in bs) (record-at bs 2) (form .in-place 2 (omega arith) (omega arith)));
-        estimate = λ p l. spells bs load-ok .0 p l
+        estimate = λ p l. estimates p l
             ∙ ap (λ (x : Station). plain kind.ESTIMATE p (x .estimate)) (sym (held p l));
         vote = λ p l e. vote-told p l true e;
         no-vote = λ p l e. vote-told p l false e;
         decided = λ p l e. rw (two-n p) (decision-told p l true e);
         undecided = λ p l e. rw (two-n p) (decision-told p l false e);
-        round = λ p l. rw (three-n p) (spells bs load-ok .1 .1 .1 .0 p l
+        round = λ p l. rw (three-n p) (rounds p l
             ∙ ap (λ (x : Station). plain kind.DECISION-ROUND p (x .round)) (sym (held p l)));
       }
 
@@ -265,8 +256,7 @@ module _ (run : Run) (buffer : List ℕ) (machine : Machine run) (e : check-save
       let (good, _) = saving-accepted run (length buffer) .0 e in
       let keeps = sound-iff run .0 good in
       let most = keeps .setup .n-to in
-      let parts = parts-below (run .setup) (keeps .setup .inequalities) in
-      let bounds = in-range-iff (run .setup) .0 (setup-iff (run .setup) .1 (keeps .setup) .0) in
+      let set-up = check-setup-accepted (run .setup) .1 (setup-iff (run .setup) .1 (keeps .setup)) in
       let block : (b : Block) → KindsFit (b .shape) → ((i : ℕ) → b .number (station-at run i) < 2 ^ 32)
       → IsBytes (written (run .setup .n) (station-record b run))
       = λ b k small. written-bytes (run .setup .n) (station-record b run)
@@ -274,7 +264,7 @@ module _ (run : Run) (buffer : List ℕ) (machine : Machine run) (e : check-save
       (omega (arith, l, most)) (small i)) in
       bytes-append
       (bytes-append
-      (head-is-bytes (run .setup) (run .default) (setup-record-fits (run .setup) bounds parts) (machine .default))
+      (head-is-bytes (run .setup) (run .default) (accepted-fits (run .setup) set-up .2) (machine .default))
       (bytes-of-bytes (plain kind.CLOCK 0 (run .clock))
       (plain-fits kind.CLOCK 0 (run .clock) (omega arith) (omega arith) (omega (arith, keeps .clock)))))
       (bytes-append (block estimates-block (omega arith) (machine .estimates .below))

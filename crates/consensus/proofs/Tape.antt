@@ -3,7 +3,7 @@
 -- to round. By induction on the rounds.
 use mathlib.Core.Path.{_≡_, refl, ap, ap₂, sym, _∙_}
 use mathlib.Core.Bool.{true}
-use mathlib.Core.List.{List, [], _∷_, _++_}
+use mathlib.Core.List.{List, [], _∷_, _++_, flatten}
 use Prim.Native.Nat.{ℕ}
 use lib.ListN.{length, length-replicate}
 use Rattle.run.specs.declared.Run.{Run}
@@ -23,7 +23,7 @@ use Rattle.judge.specs.Step.{step-of}
 use Rattle.judge.proofs.Steps.{reply-is}
 use Rattle.consensus.specs.Judge.{ours}
 use Rattle.consensus.specs.RoundReplies.{StepReply, ReadReply}
-use Rattle.consensus.specs.Tape.{AcceptedInTurn, blank-for, joined, rounds-again, tape-again}
+use Rattle.consensus.specs.Tape.{AcceptedInTurn, blank-for, rounds-again, tape-again}
 use Rattle.consensus.proofs.RoundReplies.{step-replies, read-replies, accepted-case}
 
 -- a round that is accepted can be read
@@ -33,8 +33,8 @@ readable run bs e =
     let (ready, formed, safe) = accepted-case _ (step-replies run bs .holds) taken in
     sym (read-replies run bs .alone Accepted (ReadReply.accepted (ready .keeps) formed))
 
-rounds-same : (rs : List (List ℕ)) (run : Run) → AcceptedInTurn ours run rs → rounds-again ours run rs ≡ joined rs
-unfolding AcceptedInTurn rounds-again ours
+rounds-same : (rs : List (List ℕ)) (run : Run) → AcceptedInTurn ours run rs → rounds-again ours run rs ≡ flatten rs
+unfolding AcceptedInTurn rounds-again ours flatten
 rounds-same [] run ok = refl
 rounds-same (r ∷ rs) run ok =
     ap₂ (λ (x y : List ℕ). x ++ y)
@@ -60,7 +60,7 @@ module _ (opening : List ℕ) (ok : check-opening opening ≡ Accepted) where
 -- an accepted opening and then rounds that are accepted in turn
 pub tape-same : (opening : List ℕ) (rs : List (List ℕ)) → IsBytes opening
     → is-accepted (read-opening opening .reply) ≡ true
-    → AcceptedInTurn ours (read-opening opening .run) rs → tape-again ours opening rs ≡ opening ++ joined rs
+    → AcceptedInTurn ours (read-opening opening .run) rs → tape-again ours opening rs ≡ opening ++ flatten rs
 unfolding tape-again ours
 tape-same opening rs bytes taken rounds =
     let ok : check-opening opening ≡ Accepted

@@ -2,7 +2,7 @@
 -- paper's terms, and that reading and writing undo each other.
 use mathlib.Core.Path.{_≡_}
 use mathlib.Core.Bool.{true, false}
-use mathlib.Core.List.{List, _++_}
+use mathlib.Core.List.{List, _++_, flatten}
 use mathlib.Core.Logic.{_↔_}
 use Prim.Native.Nat.{ℕ, suc, _+_, _*_, _/_, _%_, _^_, _<_}
 use lib.ListN.{length, getD}
@@ -27,7 +27,7 @@ use Rattle.judge.specs.declared.Stepped.{Stepped}
 use Rattle.consensus.specs.Judge.{Judge}
 use Rattle.consensus.specs.Round.{round-by-paper, Ready, WellFormed}
 use Rattle.consensus.specs.Spelled.{OpeningOf, ImageOf, RoundOf}
-use Rattle.consensus.specs.Tape.{AcceptedInTurn, joined, tape-again}
+use Rattle.consensus.specs.Tape.{AcceptedInTurn, tape-again}
 
 -- the sets of a round, at every place p: every bit q is set exactly if q is in the paper's set (rules 7.1 to 7.3). From n
 -- up there is no receiver and no sender
@@ -94,7 +94,7 @@ pub record Demand2 (J : Judge) : Type 0 where
   -- the same run (6.8). `Machine`: the code can hold it
   pub tapes : (opening : List ℕ) (rounds : List (List ℕ)) → IsBytes opening
       → is-accepted (J .read-opening opening .reply) ≡ true
-      → AcceptedInTurn J (J .read-opening opening .run) rounds → tape-again J opening rounds ≡ opening ++ joined rounds
+      → AcceptedInTurn J (J .read-opening opening .run) rounds → tape-again J opening rounds ≡ opening ++ flatten rounds
   pub saves : (run : Run) (buffer : List ℕ) → Keeps run → Machine run
       → length buffer ≡ record-bytes * (3 + 4 * run .setup .n)
       → J .load (J .save run buffer .bytes) ≡ record { reply = Accepted; run = run }

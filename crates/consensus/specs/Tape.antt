@@ -20,11 +20,7 @@ AcceptedInTurn J run (r ∷ rs) =
 abbrev pub blank-for : List ℕ → List ℕ
 blank-for bs = replicate (length bs) 0
 
--- the rounds one after another, and the same with each read and written again
-abbrev pub joined : List (List ℕ) → List ℕ
-joined [] = []
-joined (r ∷ rs) = r ++ joined rs
-
+-- the rounds one after another, each read and written again
 unfoldable pub rounds-again : Judge → Run → List (List ℕ) → List ℕ
 rounds-again J run [] = []
 rounds-again J run (r ∷ rs) =

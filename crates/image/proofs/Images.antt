@@ -20,7 +20,7 @@ use Rattle.run.specs.Block.{is-plain, check-block, numbers-in, flags-in}
 use Rattle.run.specs.Opening.{setup-in, default-in, check-head, check-default, unopened, answer, head-bytes}
 use Rattle.run.proofs.Openings.{answer-reply}
 use Rattle.run.proofs.Records.{length-bytes-of, put-at-back}
-use Rattle.run.proofs.Replies.{accepted-is, then-on, then-stop, then-accepted, or-refuse-accepted}
+use Rattle.run.proofs.Replies.{then-accepted, or-refuse-accepted, then-end}
 use Rattle.run.proofs.Heads.{length-head-bytes, put-head-is, check-setup-accepted, check-head-accepted, in-range-iff}
 use Rattle.image.specs.Image.{
   clock-at,
@@ -87,18 +87,11 @@ unfolding loaded check-image
 loaded-is bs = refl
 
 -- ---- as the code goes: block by block
-then-last : (r : Reply) → (r then Accepted) ≡ r
-then-last r = go (is-accepted r) refl
-  where
-    go : (b : Bool) → is-accepted r ≡ b → (r then Accepted) ≡ r
-    go true q = then-on r Accepted q ∙ sym (accepted-is r q)
-    go false q = then-stop r Accepted q
-
 pub check-blocks-is : (bs : List ℕ) (n : ℕ) → check-blocks bs estimates-from n blocks
     ≡ (check-block bs estimates-from n estimates-shape then check-block bs (votes-from n) n votes-shape
     then check-block bs (decisions-from n) n decisions-shape then check-block bs (rounds-from n) n rounds-shape)
 unfolding check-blocks
-check-blocks-is bs n = rw (then-last (check-block bs (rounds-from n) n rounds-shape))
+check-blocks-is bs n = rw (then-end (check-block bs (rounds-from n) n rounds-shape))
 
 -- and array by array
 pub run-in-is : (bs : List ℕ) → run-in bs

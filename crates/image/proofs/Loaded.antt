@@ -180,8 +180,8 @@ module _ (bs : List ℕ) (e : check-image bs ≡ Accepted) where
   spelt i l = built-below (setup-in bs) (default-in bs) (clock-in bs) n (station-in bs) i (omega (arith, most)) l
 
   -- each record is the one that is written of what it tells of its station
-  abbrev pub Spells : ℕ → Block → Type 0
-  Spells start b =
+  abbrev pub TellsStation : ℕ → Block → Type 0
+  TellsStation start b =
       (i : ℕ) → i < n
       → record-at bs (start + i) ≡ record-of (b .shape) i (b .there (station-in bs i)) (b .number (station-in bs i))
 
@@ -189,17 +189,17 @@ module _ (bs : List ℕ) (e : check-image bs ≡ Accepted) where
       → (i : ℕ) → i < n → fits-at bs start shape i ≡ true
   fit start shape = check-block-accepted bs start n shape .0
 
-  pub spells : Each Spells n estimates-from blocks
+  pub spells : Each TellsStation n estimates-from blocks
   spells =
       let all = blocks-checked bs n estimates-from blocks .0 (checked .blocks-fit) in
       let (estimates, (votes, (decisions, (rounds, _)))) = all in
-      let estimate : Spells estimates-from estimates-block
+      let estimate : TellsStation estimates-from estimates-block
       = λ i l. number-record kind.ESTIMATE i false _ (fit estimates-from _ estimates i l) in
-      let vote : Spells (votes-from n) votes-block
+      let vote : TellsStation (votes-from n) votes-block
       = λ i l. maybe-record kind.NO-VOTE kind.VOTE i _ (fit (votes-from n) _ votes i l) in
-      let decision : Spells (decisions-from n) decisions-block
+      let decision : TellsStation (decisions-from n) decisions-block
       = λ i l. maybe-record kind.UNDECIDED kind.DECIDED i _ (fit (decisions-from n) _ decisions i l) in
-      let round : Spells (rounds-from n) rounds-block
+      let round : TellsStation (rounds-from n) rounds-block
       = λ i l. number-record kind.DECISION-ROUND i false _ (fit (rounds-from n) _ rounds i l) in
       (estimate, (vote, (decision, (round, tt))))
 
@@ -233,7 +233,7 @@ module _ (bs : List ℕ) (e : check-image bs ≡ Accepted) where
       (built-keeps (setup-in bs) (default-in bs) (clock-in bs) (station-in bs) setup default (ruled .clock) station)
 
   -- its bytes are those of the run's image
-  hold : (start : ℕ) (rest : List Block) → Each Spells n start rest → Each (Holds (run-in bs) bs) n start rest
+  hold : (start : ℕ) (rest : List Block) → Each TellsStation n start rest → Each (Holds (run-in bs) bs) n start rest
   unfolding run-in
   hold start [] h = tt
   hold start (b ∷ rest) h = (λ i l. rw (spelt i l) (h .0 i l), hold (start + n) rest (h .1))

@@ -20,7 +20,7 @@ use Rattle.run.specs.Reply.{is-accepted, _then_, or-refuse}
 use Rattle.limits.specs.Setup.{is-U}
 use Rattle.run.specs.Run.{stations, most-rounds, sound}
 use Rattle.run.proofs.Filled.{filled-below}
-use Rattle.run.proofs.Replies.{then-on, then-stop, then-accepted, or-refuse-accepted}
+use Rattle.run.proofs.Replies.{then-on, then-stop, then-accepted, or-refuse-accepted, then-assoc}
 use Rattle.run.proofs.Sound.{sound-iff}
 use Rattle.hearing.specs.Masks.{mask, mask-without}
 use Rattle.round.specs.Reading.{in-turn, votes-next, round-length, check-cells}
@@ -93,13 +93,6 @@ module _ (run : Run) (bs : List ℕ) (few : run .setup .n ≤ stations) where
   sets-told = ap₂ (λ (a b : Reply). a then b) few-told enough-told
 
 -- ---- the two parts are the checks of a step
-then-then : (a b c : Reply) → ((a then b) then c) ≡ (a then (b then c))
-then-then a b c = go (is-accepted a) refl
-  where
-    go : (t : Bool) → is-accepted a ≡ t → ((a then b) then c) ≡ (a then (b then c))
-    go true e = rw e
-    go false e = rw (e, e)
-
 module _ (run : Run) (bs : List ℕ) where
   abbrev sets-on : Reply
   sets-on = check-altered run bs then check-safe run bs
@@ -120,8 +113,8 @@ module _ (run : Run) (bs : List ℕ) where
   unfolding check-step check-room
   step-parts =
       sym
-      (then-then keeps (room then long) (cells then sets-on)
-      ∙ ap (λ (r : Reply). keeps then r) (then-then room long (cells then sets-on)))
+      (then-assoc keeps (room then long) (cells then sets-on)
+      ∙ ap (λ (r : Reply). keeps then r) (then-assoc room long (cells then sets-on)))
 
   -- a refusal for want of room is the step's
   pub room-refused : {reply : Reply} → reply ≡ check-room run bs → is-accepted (check-room run bs) ≡ false

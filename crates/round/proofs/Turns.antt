@@ -10,7 +10,7 @@ use borrow.Author.Count.{below-more}
 use Rattle.run.specs.declared.Reply.{Reply}
 use Rattle.run.specs.declared.Reply.the-variants.{Accepted}
 use Rattle.run.specs.Reply.{is-accepted, _then_}
-use Rattle.run.proofs.Replies.{accepted-is, then-accepted, accepted-then, then-stop}
+use Rattle.run.proofs.Replies.{accepted-then, then-accepted, then-assoc, then-end, then-stop}
 use Rattle.round.specs.Reading.{in-turn}
 use Rattle.round.proofs.Places.{receiver-of, sender-of}
 
@@ -63,20 +63,6 @@ turn-same zero f g h = refl
 turn-same (suc n) f g h = rw (turn-same n f g (λ i l. h i (omega arith)), h n (omega arith))
 
 -- checks made in two goes, and in rows of m each
-then-assoc : (r s t : Reply) → ((r then s) then t) ≡ (r then (s then t))
-then-assoc r s t = go (is-accepted r) refl
-  where
-    go : (b : Bool) → is-accepted r ≡ b → ((r then s) then t) ≡ (r then (s then t))
-    go true q = rw q
-    go false q = rw (q, q)
-
-then-end : (r : Reply) → (r then Accepted) ≡ r
-then-end r = go (is-accepted r) refl
-  where
-    go : (b : Bool) → is-accepted r ≡ b → (r then Accepted) ≡ r
-    go true q = rw q (sym (accepted-is r q))
-    go false q = rw q
-
 pub turn-add : (m n : ℕ) (f : ℕ → Reply) → in-turn (m + n) f ≡ (in-turn m f then in-turn n (λ i. f (m + i)))
 unfolding in-turn
 turn-add m zero f = rw add-zero (sym (then-end (in-turn m f)))

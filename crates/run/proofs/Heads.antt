@@ -202,7 +202,7 @@ read-setup-again s e a =
     same
 
 -- the record of an accepted setup can be written
-accepted-fits : (s : Setup) → check-setup s ≡ Accepted → (s .e < base) × (s .alpha < base) × Fits (setup-record s)
+pub accepted-fits : (s : Setup) → check-setup s ≡ Accepted → (s .e < base) × (s .alpha < base) × Fits (setup-record s)
 unfolding setup-record
 accepted-fits s e =
     let (range, inequalities) = check-setup-accepted s .0 e in

@@ -53,6 +53,21 @@ then-accepted r s e = go (is-accepted r) refl
 pub accepted-then : (r s : Reply) → r ≡ Accepted → s ≡ Accepted → (r then s) ≡ Accepted
 accepted-then r s p q = then-on r s (ap is-accepted p) ∙ q
 
+-- nothing to ask at the end, and checks made in two goes
+pub then-end : (r : Reply) → (r then Accepted) ≡ r
+then-end r = go (is-accepted r) refl
+  where
+    go : (b : Bool) → is-accepted r ≡ b → (r then Accepted) ≡ r
+    go true q = rw q (sym (accepted-is r q))
+    go false q = rw q
+
+pub then-assoc : (r s t : Reply) → ((r then s) then t) ≡ (r then (s then t))
+then-assoc r s t = go (is-accepted r) refl
+  where
+    go : (b : Bool) → is-accepted r ≡ b → ((r then s) then t) ≡ (r then (s then t))
+    go true q = rw q
+    go false q = rw (q, q)
+
 -- one test
 pub or-refuse-accepted : (b : Bool) (r : Reply) → is-accepted r ≡ false → or-refuse b r ≡ Accepted → b ≡ true
 or-refuse-accepted true r f e = refl

@@ -95,7 +95,7 @@ module _ (s : Setup) where
   one-is : s .algorithm ≡ byte-A → is-U s ≡ false
   one-is e = ne-eqb (s .algorithm) byte-U (λ q. omega arith)
 
-  either-is : byte-A ≤ s .algorithm → s .algorithm ≤ byte-U → (s .algorithm ≡ byte-A) ⊎ (s .algorithm ≡ byte-U)
+  pub either-is : byte-A ≤ s .algorithm → s .algorithm ≤ byte-U → (s .algorithm ≡ byte-A) ⊎ (s .algorithm ≡ byte-U)
   either-is low high = go (ℕ-discrete (s .algorithm) byte-A)
     where
       go : Dec (s .algorithm ≡ byte-A) → (s .algorithm ≡ byte-A) ⊎ (s .algorithm ≡ byte-U)
@@ -122,14 +122,14 @@ unfolding kept-fits
 keeps-beside {there} {number} h = then-or there _ (λ n. eq-eqb number 0 (h n))
 
 module _ (s : Setup) (clock : ℕ) where
-  may-decide-keeps : (r : ℕ) → may-decide s clock r ≡ true → (1 ≤ r) × (r ≤ clock) × (s .algorithm ≡ byte-U → r % 2 ≡ 0)
+  pub may-decide-keeps : (r : ℕ) → may-decide s clock r ≡ true → (1 ≤ r) × (r ≤ clock) × (s .algorithm ≡ byte-U → r % 2 ≡ 0)
   unfolding may-decide
   may-decide-keeps r e =
       let (bounds, even) = both _ _ e in
       let (from, to) = both _ _ bounds in
       (leb-true _ _ from, leb-true _ _ to, λ t. eqb-true _ _ (or-then (not (is-U s)) _ even (ap not (two-is s t))))
 
-  keeps-may-decide : (r : ℕ) → 1 ≤ r → r ≤ clock → (s .algorithm ≡ byte-U → r % 2 ≡ 0) → may-decide s clock r ≡ true
+  pub keeps-may-decide : (r : ℕ) → 1 ≤ r → r ≤ clock → (s .algorithm ≡ byte-U → r % 2 ≡ 0) → may-decide s clock r ≡ true
   unfolding may-decide
   keeps-may-decide r from to even =
       rw (le-leb _ _ from, le-leb _ _ to) (then-or (not (is-U s)) _ (λ n. eq-eqb _ _ (even (is-two s (not-false _ n)))))
