@@ -1,5 +1,7 @@
 // Images: a run saved into a lent buffer, and loaded from one (rules 6, 12.3 and 12.4). An image is the setup, the
 // default and the clock, then four blocks of a record for each station: estimates, votes, decisions and their rounds.
+#![tactic(auto)]
+
 ghost use Rattle.std.specs.Prelude.{◌≡◌, ◌≤◌, length};
 ghost use Rattle.run.specs.Run.{stations};
 ghost use Rattle.image.specs.Image.{

@@ -1,4 +1,6 @@
 // The judge: one round taken (rule 12.8).
+#![tactic(auto)]
+
 pub mod rows; // the rows of a round: its records, sets and counts
 pub mod step; // one round taken
 
@@ -6,7 +8,7 @@ use hearing::Tally;
 use run::{Reply, Run};
 
 // What the rows of a round tell: each receiver's HO, SHO and count; none where a record is refused.
-#[derive(Drop)]
+#[derive(Clone, Copy)]
 pub struct Counted {
     pub reply: Reply,
     pub ho: [u32; Run::STATIONS],
@@ -16,7 +18,7 @@ pub struct Counted {
 
 // What taking a round answers: the next run, for each station what fired, and the round's HO and SHO. Where it is
 // refused: the run handed in, no firing and empty sets.
-#[derive(Drop)]
+#[derive(Clone, Copy)]
 pub struct Stepped {
     pub reply: Reply,
     pub run: Run,

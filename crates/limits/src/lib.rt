@@ -1,5 +1,7 @@
 // The parameters of a run, the inequalities between them, and every guard: all that looks inside T, E and alpha (rules
 // 10).
+#![tactic(auto)]
+
 pub mod inequalities; // which setups are acceptable
 pub mod guard; // sizes of sets against the thresholds
 
@@ -12,7 +14,7 @@ pub const U: u8 = 2;
 
 // The parameters of a run. The algorithm stays the byte of the tape: A, U, 0 in the idle run, anything in a run handed
 // in.
-#[derive(Drop)]
+#[derive(Clone, Copy)]
 pub struct Setup {
     pub algorithm: u8,
     pub n: u8,
@@ -22,7 +24,7 @@ pub struct Setup {
 }
 
 // The paper's two algorithms.
-#[derive(Drop)]
+#[derive(Clone, Copy)]
 pub enum Algorithm {
     A,
     U,

@@ -1,5 +1,7 @@
 // The listing's lines (rules 14.2 to 14.6), put into a buffer: each function writes from a place on and answers the
 // place after its text.
+#![tactic(auto)]
+
 ghost use Rattle.std.specs.Prelude.{◌≡◌, ◌&&◌, [], ◌∷◌, ◌++◌, ◌+◌, ◌*◌, ◌≤◌, ◌<◌, length, leb};
 ghost use Rattle.run.specs.Run.{stations};
 ghost use Rattle.lines.specs.Text.{

@@ -1,6 +1,8 @@
 // The listing of a tape (rules 14): the tape is read from standard input, a round at a time, and printed page by page.
 // Every function is proved safe and ending, and the pages are proved in `pages`: here bytes are moved, and no more.
 // What is read and written is tested: no contract can speak of it.
+#![tactic(auto)]
+
 ghost use Rattle.std.specs.Prelude.{◌+◌, ◌≤◌, length};
 ghost use Rattle.run.specs.Tape.{longest_opening};
 ghost use Rattle.lines.specs.Text.{longest};

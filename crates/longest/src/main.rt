@@ -1,5 +1,7 @@
 // The longest tape there is to play, 4,096 rounds, under U with two stations that hear each other: what it takes of the
 // stack is measured.
+#![tactic(auto)]
+
 use libc::STDOUT_FILENO;
 use limits::Setup;
 use put::{opening, records};

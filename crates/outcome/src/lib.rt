@@ -1,5 +1,7 @@
 // What a round makes of one station, told from the count of its row: Algorithm 1, and the two halves of Algorithm 2,
 // line by line (rules 8 and 9).
+#![tactic(auto)]
+
 ghost use Rattle.std.specs.Prelude.{◌≡◌, not, ◌&&◌, ◌||◌, cond, eqb};
 ghost use Rattle.std.specs.Int.Count.{ones};
 ghost use Rattle.paper.specs.Setup as setup;
@@ -11,7 +13,7 @@ use limits::{Setup, guard, is_u};
 use run::Station;
 
 // What a round does: the estimate and the vote that it leaves, and the value that it decides, if any.
-#[derive(Drop)]
+#[derive(Clone, Copy)]
 pub struct Deeds {
     pub estimate: u32,
     pub voted: bool,
@@ -21,7 +23,7 @@ pub struct Deeds {
 }
 
 // What a round makes of one station: what it then holds, and for which value the decide rule fired, if it did.
-#[derive(Drop)]
+#[derive(Clone, Copy)]
 pub struct Outcome {
     pub station: Station,
     pub fires: bool,

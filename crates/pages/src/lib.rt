@@ -1,13 +1,15 @@
 // The listing of a tape, page by page (rules 14.2 to 14.6): a page is a line, put into a buffer. The first is of the
 // opening's bytes, each other of the next round's bytes, or of none where the tape has ended. A tape's pages, one
 // behind the other, are its listing (proofs/Whole.antt).
+#![tactic(auto)]
+
 ghost use Rattle.pages.specs.Pages.{Puts, first_page, next_page};
 
 use judge::step::step;
 use run::{Reply, Run};
 
 // What putting a page answers: the run to go on with, whether another page follows, and where the text ends.
-#[derive(Drop)]
+#[derive(Clone, Copy)]
 pub struct Listed {
     pub run: Run,
     pub more: bool,

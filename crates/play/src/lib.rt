@@ -1,4 +1,6 @@
 // Playing a part of a tape (rules 13.4 to 13.8): its rounds taken in order, until nothing is left or one is refused.
+#![tactic(auto)]
+
 ghost use Rattle.std.specs.Prelude.{◌≡◌, ◌+◌, ◌≤◌, take};
 ghost use Rattle.paper.specs.Rules.{update, value, vote};
 ghost use Rattle.run.specs.Keeps.{Keeps};
@@ -15,7 +17,7 @@ const PART: usize = 16;
 
 // What playing a part answers (rules 13.5 to 13.7): the run, the reply with its place in the refused round, and how
 // many rounds were accepted.
-#[derive(Drop)]
+#[derive(Clone, Copy)]
 pub struct Played {
     pub run: Run,
     pub reply: Reply,

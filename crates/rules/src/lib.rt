@@ -1,4 +1,6 @@
 // The rules of a run (rules 5.2 to 5.9): what every run that an opening or an image gives keeps.
+#![tactic(auto)]
+
 ghost use Rattle.std.specs.Prelude.{◌≡◌};
 ghost use Rattle.run.specs.Run.{
   may_vote,

@@ -7,7 +7,7 @@ use super::record::Record;
 use super::{Reply, Run, record};
 
 // The records of a block: all with a number, under one kind; or some without, under a kind of their own.
-#[derive(Drop)]
+#[derive(Clone, Copy)]
 pub enum Shape {
     Number(u8),
     Maybe(u8, u8),

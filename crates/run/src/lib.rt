@@ -1,4 +1,6 @@
 // The run: its type and constants, openings read, and a tape in its two parts (rules 1 to 3, 5, 11 and 13).
+#![tactic(auto)]
+
 pub mod kinds; // the kinds of records
 pub mod record; // records of 8 bytes
 pub mod block; // a record for each station
@@ -14,7 +16,7 @@ ghost use Rattle.run.specs.Opening.{unopened};
 use limits::Setup;
 
 // A run: its stations' estimates, votes and decisions beside the setup, the default and the clock (rounds accepted).
-#[derive(Drop)]
+#[derive(Clone, Copy)]
 pub struct Run {
     pub setup: Setup,
     pub default: u32,
@@ -59,7 +61,7 @@ impl Run {
 }
 
 // What a run holds of one station.
-#[derive(Drop)]
+#[derive(Clone, Copy)]
 pub struct Station {
     pub estimate: u32,
     pub voted: bool,
@@ -70,7 +72,7 @@ pub struct Station {
 }
 
 // What the judge replies, with the place where the number has one.
-#[derive(Drop)]
+#[derive(Clone, Copy)]
 pub enum Reply {
     Accepted,
     Length,
@@ -124,7 +126,7 @@ impl Reply {
 }
 
 // What opening or loading answers: the run, idle where it is refused.
-#[derive(Drop)]
+#[derive(Clone, Copy)]
 pub struct Opened {
     pub reply: Reply,
     pub run: Run,

@@ -5,7 +5,7 @@ ghost use Rattle.run.specs.Record.{blank, record_at};
 use super::Run;
 
 // A record's bytes in order: the kind, three bytes, and a number of four.
-#[derive(Drop)]
+#[derive(Clone, Copy)]
 pub struct Record {
     pub kind: u8,
     pub first: u8,

@@ -1,5 +1,7 @@
 // The switch's entries, for a host in C or Rust: a run opened into a lent image, and a lent image stepped by a lent
 // round (rules 15).
+#![tactic(auto)]
+
 ghost use Rattle.std.specs.Prelude.{◌≡◌};
 ghost use Rattle.switch.specs.Switch.{answer_of, open_reply, open_image, step_reply, step_image};
 

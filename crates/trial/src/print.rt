@@ -44,7 +44,7 @@ pub fn maybe(there: bool, number: u32, sign: &[u8]) {
 }
 
 // What a line says of each station.
-#[derive(Drop)]
+#[derive(Clone, Copy)]
 enum Part {
     Hold,
     Vote,

@@ -1,5 +1,7 @@
 // Runs the trials of rounds read, written and surveyed: for each frame of the input, one call, and a line that says
 // what it answered.
+#![tactic(auto)]
+
 use hearing::surveys;
 use round::{Cell, Matrix, Slot, read};
 use run::Run;

@@ -1,5 +1,7 @@
 // Runs the trials of openings, images and runs: for each frame of the input, one call, and a line that says what it
 // answered.
+#![tactic(auto)]
+
 use limits::Setup;
 use run::Run;
 use trial::{print, take};

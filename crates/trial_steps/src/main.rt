@@ -1,5 +1,7 @@
 // Runs the trials of steps and of parts played: for each frame of the input, one call, and a line that says what it
 // answered.
+#![tactic(auto)]
+
 use run::Run;
 use trial::{print, take};
 

@@ -1,4 +1,6 @@
 // Rounds written from the matrix (rules 4.9 and 12.7).
+#![tactic(auto)]
+
 ghost use Rattle.std.specs.Prelude.{◌≡◌, ◌&&◌, ◌||◌, ◌+◌, ◌*◌, ◌/◌, ◌%◌, ◌≤◌, ◌<◌, ltb, length};
 ghost use Rattle.run.specs.Run.{stations};
 ghost use Rattle.round.specs.Cells.{cell_record};
