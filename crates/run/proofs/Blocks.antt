@@ -33,7 +33,6 @@ use Rattle.run.specs.Block.{
   block_record,
 }
 use Rattle.run.specs.Putting.{put_block}
-use Rattle.run.proofs.Bytes.{bytes_drop}
 use Rattle.run.proofs.Records.{
   length_bytes_of,
   record_at_front,
@@ -42,7 +41,7 @@ use Rattle.run.proofs.Records.{
   put_at_out,
   put_at_back,
 }
-use Rattle.run.proofs.Written.{length_written, record_at_written, written_take, written_same}
+use Rattle.run.proofs.Written.{length_written, record_at_written}
 use Rattle.run.proofs.First.{first_none, first_some}
 use Rattle.run.proofs.Filled.{length_filled, filled_below, filled_above, filled_of}
 use Rattle.run.proofs.Replies.{refuse_at_accepted, accepted_refuse_at}

@@ -2,12 +2,8 @@
 use mathlib.Core.Path.{sym}
 use Rattle.run.specs.Run.{nothing, idle}
 use Rattle.run.proofs.Built.{built_none}
-use Rattle.run.proofs.Run.idle.Statement.{statement}
-use Rattle.run.proofs.Run.idle.Tie as tie
+use Rattle.run.proofs.Run.idle.Goals as goal
 
-returns : tie.Need-returns
+pub returns : goal.returns
 unfolding idle
 returns c = sym (built_none _ 0 0 (λ i. nothing))
-
-pub idle_spec : {M : Type 1} → statement M
-idle_spec = tie.close (tie.spec returns)

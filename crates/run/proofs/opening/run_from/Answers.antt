@@ -2,11 +2,7 @@
 use mathlib.Core.Path.{sym}
 use borrow.Author.Rules.{rules}
 use Rattle.run.proofs.Openings.{run_from_is}
-use Rattle.run.proofs.opening.run_from.Statement.{statement}
-use Rattle.run.proofs.opening.run_from.Tie as tie
+use Rattle.run.proofs.opening.run_from.Goals as goal
 
-returns : tie.Need-returns
+pub returns : goal.returns
 returns c = sym (run_from_is _ _ _ (search rules) (search rules))
-
-pub run-from-spec : {M : Type 1} → statement M
-run-from-spec = tie.close (tie.spec returns)
