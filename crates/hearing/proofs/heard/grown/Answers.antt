@@ -4,10 +4,8 @@ use mathlib.Core.Bool.{Bool, true, false}
 use Prim.Native.Nat.{ℕ, ◌+◌, ◌*◌, ◌≤◌}
 use native.Mathlib.Omega.{arith}
 use mir.Val.{bool_byte}
-use borrow.Author.Rules.{rules}
 use Rattle.paper.specs.Stations.{one}
-use Rattle.hearing.proofs.heard.grown.Statement.{statement}
-use Rattle.hearing.proofs.heard.grown.Tie as tie
+use Rattle.hearing.proofs.heard.grown.Goals as goal
 
 flag : (there : Bool) → bool_byte there ≡ one there
 unfolding one
@@ -18,11 +16,8 @@ flag_small : (there : Bool) → bool_byte there ≤ 1
 flag_small true = omega arith
 flag_small false = omega arith
 
-add-result : tie.Need-overflow-add-result
-add-result c = omega (arith, flag_small c.args.there, c.requires)
+pub overflow_add-result : goal.overflow_add-result
+overflow_add-result c = omega (arith, flag_small c.args.there, c.requires)
 
-returns : tie.Need-returns
+pub returns : goal.returns
 returns c = ap (λ (k : ℕ). 2 * c.args.set + k) (flag c.args.there)
-
-pub grown-spec : {M : Type 1} → statement M
-grown-spec = tie.close (tie.spec (λ c. search rules) (λ c. search rules) add-result returns)
