@@ -9,7 +9,6 @@ use lib.ListN.{length}
 use lib.Dec.{eqb, ltb}
 use borrow.Author.Tests.{ltb-true}
 use Rattle.paper.specs.Setup as setup
-use Rattle.paper.specs.Run as paper
 use Rattle.run.specs.declared.Run.{Run}
 use Rattle.run.specs.declared.Reply.{Reply}
 use Rattle.run.specs.declared.Reply.TheVariants.{Accepted, Length, Altered, Unsafe, Full, Rules}

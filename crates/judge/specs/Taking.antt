@@ -1,7 +1,7 @@
 -- A round taken as the code does it: room for it, its records, then 6 and 7 asked of the masks of HO and SHO, and each
 -- station's outcome from the count of its row. That this is the step is proved in proofs/Checks.antt and
 -- proofs/Advances.antt.
-use Rattle.std.specs.Prelude.{ℕ, ◌+◌, ◌-◌, Bool, false, cond, List, eqb, ltb, length, get_or}
+use Rattle.std.specs.Prelude.{ℕ, ◌+◌, Bool, false, cond, List, eqb, ltb, length, get_or}
 use Rattle.std.specs.Int.Count.{ones}
 use Rattle.paper.specs.Setup as setup
 use Rattle.run.specs.declared.Reply.{Reply}

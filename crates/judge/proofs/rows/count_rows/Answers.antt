@@ -1,17 +1,12 @@
 -- `judge::rows::count_rows` meets its contract: the rows passed were all accepted, and each turn stores the sets and
 -- the count of the next.
 use mathlib.Core.Path.{◌≡◌, ◌∙◌}
-use Prim.Native.Nat.{◌-◌, ◌≤◌, ◌<◌}
+use Prim.Native.Nat.{◌<◌}
 use native.Mathlib.Omega.{arith}
-use borrow.Author.Rules.{rules}
-use Rattle.paper.specs.Setup.{vouched}
-use Rattle.limits.specs.Setup.{setup_of}
-use Rattle.run.specs.declared.Reply.TheVariants.{Accepted}
 use Rattle.run.proofs.Asked.{accepts, refuses}
-use Rattle.round.specs.Reading.{in_turn, row_part, check_row, check_cells}
+use Rattle.round.specs.Reading.{check_cells}
 use Rattle.round.proofs.Turns.{turn_zero, turn_on, turn_returns}
 use Rattle.round.proofs.Rows.{row_reply}
-use Rattle.judge.specs.Rows.{counted_to}
 use Rattle.judge.proofs.Countings.{counted_none, counted_more, counted_refused, counted_done}
 use Rattle.judge.proofs.rows.count_rows.Goals as goal
 

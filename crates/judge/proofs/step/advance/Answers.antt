@@ -1,9 +1,6 @@
 -- `judge::step::advance` meets its contract: each turn stores the next station's outcome at its place.
 use mathlib.Core.Path.{◌≡◌, ◌∙◌}
-use Prim.Native.Nat.{◌-◌, ◌≤◌}
 use native.Mathlib.Omega.{arith}
-use borrow.Author.Rules.{rules}
-use Rattle.judge.specs.Taking.{next_to, fires_to, fired_to}
 use Rattle.judge.proofs.Advances.{
   next_none,
   fires_none,

@@ -1,13 +1,9 @@
 -- `judge::step::ask_altered` meets its contract: the receivers passed were all accepted, so the first with too many
 -- altered gives the reply.
 use mathlib.Core.Path.{◌≡◌, refl}
-use Prim.Native.Nat.{◌-◌, ◌≤◌}
 use native.Mathlib.Omega.{arith}
-use borrow.Author.Rules.{rules}
-use Rattle.run.specs.declared.Reply.TheVariants.{Accepted, Altered}
-use Rattle.run.specs.Reply.{or_refuse}
+use Rattle.run.specs.declared.Reply.TheVariants.{Altered}
 use Rattle.run.proofs.Asked.{passes, fails}
-use Rattle.round.specs.Reading.{in_turn}
 use Rattle.round.proofs.Turns.{turn_zero}
 use Rattle.judge.specs.Taking.{few_at, altered_asked}
 use Rattle.judge.proofs.Checks.{asked_refused, asked_on}
@@ -17,7 +13,7 @@ pub returns-then-not-tolerated : goal.returns-then-not-tolerated
 unfolding altered_asked
 returns-then-not-tolerated c =
     let args = c.args in
-    asked_refused (few_at args.setup args.t2 args.t3) Altered (λ i. refl) args.setup.n c.loop-p.p
+    asked_refused (few_at args.setup args.ho args.sho) Altered (λ i. refl) args.setup.n c.loop-p.p
     c.loop-p.invariant.1
     (fails (rw c.altered.ensures at c.tolerated.ensures) c.if-not-tolerated.true-raw) (omega arith)
 
@@ -25,7 +21,7 @@ pub loop-p-preserved : goal.loop-p-preserved
 loop-p-preserved c =
     let args = c.args in (
       omega arith,
-      asked_on (few_at args.setup args.t2 args.t3) Altered (λ i. refl) c.loop-p.p c.loop-p.invariant.1
+      asked_on (few_at args.setup args.ho args.sho) Altered (λ i. refl) c.loop-p.p c.loop-p.invariant.1
           (passes (rw c.altered.ensures at c.tolerated.ensures) c.if-not-tolerated.false-raw),
     )
 

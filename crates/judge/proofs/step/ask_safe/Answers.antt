@@ -1,13 +1,9 @@
 -- `judge::step::ask_safe` meets its contract: the receivers passed were all accepted, so the first with too few heard
 -- safely gives the reply.
 use mathlib.Core.Path.{◌≡◌, refl}
-use Prim.Native.Nat.{◌-◌, ◌≤◌}
 use native.Mathlib.Omega.{arith}
-use borrow.Author.Rules.{rules}
-use Rattle.run.specs.declared.Reply.TheVariants.{Accepted, Unsafe}
-use Rattle.run.specs.Reply.{or_refuse}
+use Rattle.run.specs.declared.Reply.TheVariants.{Unsafe}
 use Rattle.run.proofs.Asked.{passes, fails}
-use Rattle.round.specs.Reading.{in_turn}
 use Rattle.round.proofs.Turns.{turn_zero}
 use Rattle.judge.specs.Taking.{enough_at, safe_asked}
 use Rattle.judge.proofs.Checks.{asked_refused, asked_on}
@@ -17,7 +13,7 @@ pub returns-then-not-passes_bound : goal.returns-then-not-passes_bound
 unfolding safe_asked
 returns-then-not-passes_bound c =
     let args = c.args in
-    asked_refused (enough_at args.setup args.t2) Unsafe (λ i. refl) args.setup.n c.loop-p.p
+    asked_refused (enough_at args.setup args.sho) Unsafe (λ i. refl) args.setup.n c.loop-p.p
     c.loop-p.invariant.1
     (fails c.passes_bound.ensures c.if-not-passes_bound.true-raw) (omega arith)
 
@@ -25,7 +21,7 @@ pub loop-p-preserved : goal.loop-p-preserved
 loop-p-preserved c =
     let args = c.args in (
       omega arith,
-      asked_on (enough_at args.setup args.t2) Unsafe (λ i. refl) c.loop-p.p c.loop-p.invariant.1
+      asked_on (enough_at args.setup args.sho) Unsafe (λ i. refl) c.loop-p.p c.loop-p.invariant.1
           (passes c.passes_bound.ensures c.if-not-passes_bound.false-raw),
     )
 

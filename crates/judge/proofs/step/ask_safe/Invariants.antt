@@ -1,16 +1,11 @@
 -- `judge::step::ask_safe` meets its contract: the receivers passed were all accepted, so the first with too few heard
 -- safely gives the reply.
-use mathlib.Core.Path.{◌≡◌, refl}
+use mathlib.Core.Path.{◌≡◌}
 use Prim.Native.Nat.{◌-◌, ◌≤◌}
-use native.Mathlib.Omega.{arith}
-use borrow.Author.Rules.{rules}
 use Rattle.run.specs.declared.Reply.TheVariants.{Accepted, Unsafe}
 use Rattle.run.specs.Reply.{or_refuse}
-use Rattle.run.proofs.Asked.{passes, fails}
 use Rattle.round.specs.Reading.{in_turn}
-use Rattle.round.proofs.Turns.{turn_zero}
-use Rattle.judge.specs.Taking.{enough_at, safe_asked}
-use Rattle.judge.proofs.Checks.{asked_refused, asked_on}
+use Rattle.judge.specs.Taking.{enough_at}
 use Rattle.judge.proofs.step.ask_safe.Given as goal
 
 abbrev pub invariant-loop-p : goal.invariant-loop-p

@@ -1,7 +1,6 @@
 -- `judge::step::ask_sets` meets its contract: the second check is asked where the first accepted, and under U only.
 use mathlib.Core.Path.{sym, ◌∙◌}
 use mathlib.Core.Bool.{true, false}
-use borrow.Author.Rules.{rules}
 use Rattle.run.proofs.Asked.{accepts, refuses}
 use Rattle.judge.proofs.Checks.{sets_few, sets_enough}
 use Rattle.judge.proofs.step.ask_sets.Goals as goal

@@ -1,5 +1,4 @@
 -- `judge::step::begun` meets its contract: it is the idle run but for the three fields stored.
-use borrow.Author.Rules.{rules}
 use Rattle.run.specs.Run.{idle}
 use Rattle.judge.specs.Taking.{begun}
 use Rattle.judge.proofs.step.begun.Goals as goal

@@ -1,6 +1,5 @@
 -- `judge::step::check_room` meets its contract: the code makes the checks in the definition's order.
 use mathlib.Core.Path.{sym, ◌∙◌}
-use borrow.Author.Rules.{rules}
 use Rattle.run.proofs.Asked.{fails, passes}
 use Rattle.judge.proofs.Checks.{room_unsound, room_full, room_length, room_there}
 use Rattle.judge.proofs.step.check_room.Goals as goal
