@@ -72,7 +72,7 @@ fn take_first(run: Run, tape: &[u8]) -> Played
 }
 
 // Takes a value round of U, and hands the rest on to the vote round that follows.
-#[cycle(value_round_vote_round)]
+#[cycle(rounds_of_u)]
 fn value_round(run: Run, tape: &[u8]) -> Played
     requires { Awaits value run }
     ensures { result ≡ take_tape run tape.now }
@@ -88,7 +88,7 @@ fn value_round(run: Run, tape: &[u8]) -> Played
 }
 
 // Takes a vote round of U, and hands the rest on to the value round that follows.
-#[cycle(value_round_vote_round)]
+#[cycle(rounds_of_u)]
 fn vote_round(run: Run, tape: &[u8]) -> Played
     requires { Awaits vote run }
     ensures { result ≡ take_tape run tape.now }
