@@ -13,14 +13,14 @@ use Rattle.run.specs.declared.Reply.{Reply}
 use Rattle.run.specs.declared.Reply.TheVariants.{Accepted, Buffer}
 use Rattle.run.specs.Reply.{is_accepted, ◌then◌, or_refuse}
 use Rattle.run.specs.Opening.{check_opening, answer}
-use Rattle.run.proofs.Replies.{accepted_is, then_accepted}
+use Rattle.run.proofs.Replies.{then_accepted}
 use Rattle.image.specs.Image.{image_length, image, check_form, run_in, check_rules, check_image, loaded}
 use Rattle.image.specs.Putting.{put_image}
-use Rattle.image.proofs.Images.{loaded_reply, put_whole}
+use Rattle.image.proofs.Images.{put_whole}
 use Rattle.image.proofs.Loaded.{form_checked}
 use Rattle.judge.specs.declared.Stepped.{Stepped}
 use Rattle.judge.specs.Step.{check_step, run_after, stepped, step_of}
-use Rattle.judge.proofs.Steps.{reply_is, step_accepted}
+use Rattle.judge.proofs.Steps.{step_accepted}
 use Rattle.switch.specs.Switch.{opened_run, loaded_run, open_reply, open_image, step_reply, step_image}
 
 -- ---- the definitions' own text, to rewrite with while what it cites stays shut
