@@ -10,7 +10,7 @@ use Rattle.run.specs.declared.Reply.TheVariants.{Accepted}
 use Rattle.run.specs.Reply.{is_accepted, ◌then◌, or_refuse, refuse_at}
 use Rattle.run.specs.First.{first}
 use Rattle.run.proofs.First.{first_none, first_some}
-use Rattle.run.proofs.Replies.{accepted_is, refused_isn't, then_on, then_stop}
+use Rattle.run.proofs.Replies.{accepted_is, then_on, then_stop}
 use Rattle.round.specs.Reading.{in_turn}
 use Rattle.round.proofs.Turns.{turn_accepted}
 

@@ -5,24 +5,20 @@ use mathlib.Core.Bool.{Bool, true, false, cond, false≢true}
 use mathlib.Core.List.{List}
 use Prim.Native.Nat.{ℕ}
 use lib.ListN.{length, replicate}
-use Rattle.limits.specs.declared.Setup.{Setup}
 use Rattle.run.specs.declared.Run.{Run}
 use Rattle.run.specs.declared.Reply.{Reply}
 use Rattle.run.specs.declared.Opened.{Opened}
-use Rattle.run.specs.Opening.{check_opening, unopened, read_opening, check_write, write_opening}
+use Rattle.run.specs.Opening.{check_opening, unopened, read_opening}
 use Rattle.run.specs.Reply.{is_accepted}
 use Rattle.run.specs.Run.{stations, idle}
 use Rattle.run.proofs.Openings.{opened_reply, refused_idle, wrote_nothing}
 use Rattle.image.specs.Image.{check_save, saved, check_image, loaded}
 use Rattle.image.proofs.Images.{saved_is, loaded_reply}
 use Rattle.image.proofs.Saved as images
-use Rattle.round.specs.declared.Matrix.{Matrix}
 use Rattle.round.specs.declared.Reading.{Reading}
 use Rattle.round.specs.Reading.{check_reading, all_lost, read_round}
 use Rattle.round.proofs.Readings.{reading_reply, reading_refused}
-use Rattle.writing.specs.Writing.{check_writing, write_round}
 use Rattle.writing.proofs.Writings.{writing_refused}
-use Rattle.hearing.specs.declared.Survey.{Survey}
 use Rattle.hearing.specs.Survey.{survey_of}
 use Rattle.judge.specs.Step.{check_step, stepped, unstepped, step_of}
 use Rattle.judge.proofs.Steps.{reply_is}

@@ -1,11 +1,11 @@
 -- This judge meets demand 2: a round is accepted in one case of the relation of replies, and the answer is then made of
 -- the paper's stations, firings and sets.
 use mathlib.Core.Path.{◌≡◌, refl, ap, sym, ◌∙◌, subst}
-use mathlib.Core.Bool.{Bool, true, false, false≢true}
+use mathlib.Core.Bool.{true, false, false≢true}
 use mathlib.Core.List.{List}
 use mathlib.Core.Option.{Option, none, some}
 use mathlib.Core.Logic.{◌↔◌}
-use Prim.Native.Nat.{ℕ, ◌/◌, ◌%◌, ◌^◌, ◌≤◌, ◌<◌}
+use Prim.Native.Nat.{ℕ, ◌≤◌}
 use native.Mathlib.Numerals.{add-one}
 use native.Mathlib.Omega.{arith}
 use lib.ListN.{length, get_or}
@@ -16,7 +16,6 @@ use Rattle.paper.specs.Rules as rules
 use Rattle.paper.specs.Run as paper
 use Rattle.paper.proofs.Pins.{fired_iff}
 use Rattle.run.specs.declared.Run.{Run}
-use Rattle.run.specs.declared.Reply.{Reply}
 use Rattle.run.specs.declared.Reply.TheVariants.{Accepted}
 use Rattle.run.specs.Keeps.{Keeps}
 use Rattle.run.specs.Machine.{Machine}

@@ -21,7 +21,7 @@ use Rattle.round.specs.Reading.{round_length}
 use Rattle.round.specs.Bridge.{heard_in, station, sent_next}
 use Rattle.judge.specs.Step.{check_step}
 use Rattle.consensus.specs.Judge.{Judge}
-use Rattle.consensus.specs.Round.{round_by_paper, Ready, WellFormed}
+use Rattle.consensus.specs.Round.{round_by_paper, Ready}
 use Rattle.consensus.specs.Demand2.{Demand2}
 use Rattle.consensus.specs.EmptyJudges.{RefusesAll, SaysOne, Unmoved, FirstOnly, three, all_heard}
 use Rattle.consensus.proofs.RoundReplies.{step_replies, accepted_case}

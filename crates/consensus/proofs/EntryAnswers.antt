@@ -1,8 +1,8 @@
 -- What the two entries answer and leave in the buffer is what specs/EntryAnswers says and no more: the checks of an
 -- opening, an image and a round each have their relation, and an accepted opening or image tells the setup, and so the
 -- length that the buffer must have.
-use mathlib.Core.Path.{◌≡◌, refl, ap, ap₂, sym, ◌∙◌, subst}
-use mathlib.Core.Bool.{Bool, true, false, cond}
+use mathlib.Core.Path.{◌≡◌, refl, ap, sym, ◌∙◌, subst}
+use mathlib.Core.Bool.{Bool, true, false}
 use mathlib.Core.List.{List}
 use mathlib.Core.Logic.{◌⊎◌, inl, inr}
 use Prim.Native.Nat.{ℕ, ◌+◌, ◌*◌, ◌≤◌}
@@ -201,7 +201,7 @@ opening_number bs r (OpeningReply.no_setup h none) = omega arith
 opening_number bs r (OpeningReply.out_of_range there out) = omega arith
 opening_number bs r (OpeningReply.unmet there range not_met) = omega arith
 opening_number bs r (OpeningReply.misfit head other) = omega arith
-opening_number bs r (OpeningReply.no_default_lem head long none) = omega arith
+opening_number bs r (OpeningReply.no_default head long none) = omega arith
 opening_number bs r (OpeningReply.no_start p head long default l before none) = omega arith
 opening_number bs r (OpeningReply.accepted head long default all) = omega arith
 
@@ -222,7 +222,7 @@ image_number bs r (ImageReply.broken k form b none) = inr refl
 image_number bs r (ImageReply.accepted form none) = inl (omega arith)
 
 round_number : (run : Run) (bs : List ℕ) (r : Reply) → StepReply run bs r → (number_of r ≤ 8) ⊎ (number_of r ≡ 10)
-round_number run bs r (StepReply.unsound bad) = inr refl
+round_number run bs r (StepReply.not_good bad) = inr refl
 round_number run bs r (StepReply.is_full keeps full) = inl (omega arith)
 round_number run bs r (StepReply.misfit ready other) = inl (omega arith)
 round_number run bs r (StepReply.malformed p q ready whole first bad) = inl (omega arith)

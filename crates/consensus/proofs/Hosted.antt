@@ -2,7 +2,7 @@
 -- image of the run that the round leaves, since a refused call writes nothing and an accepted one writes the next run's
 -- image. By induction on the calls.
 use mathlib.Core.Path.{◌≡◌, refl, ap, sym, ◌∙◌, subst}
-use mathlib.Core.Bool.{true, false}
+use mathlib.Core.Bool.{false}
 use mathlib.Core.List.{List, [], ◌∷◌, ◌++◌}
 use Prim.Native.Nat.{ℕ, suc}
 use native.Mathlib.Omega.{arith}
@@ -26,8 +26,6 @@ use Rattle.judge.specs.Step.{check_step, step_of}
 use Rattle.judge.proofs.Machines.{machine_after}
 use Rattle.judge.proofs.Steps.{passed, reply_is, clock_next, keeps_next, refused_same}
 use Rattle.switch.proofs.Calls.{loaded_in}
-use Rattle.consensus.specs.OpeningReplies.{OpeningReply}
-use Rattle.consensus.specs.ImageReplies.{ImageReply}
 use Rattle.consensus.specs.RoundReplies.{StepReply}
 use Rattle.consensus.specs.EntryAnswers.{OpenAnswer, StepAnswer}
 use Rattle.consensus.specs.Offered.{to_step, run_then, run_after_all}

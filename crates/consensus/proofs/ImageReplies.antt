@@ -2,29 +2,28 @@
 -- is in its place exactly if its block's test says so, and the rules are asked in the order of the records at which
 -- they are told.
 use mathlib.Core.Path.{◌≡◌, refl, ap, sym, ◌∙◌, subst}
-use mathlib.Core.Bool.{Bool, true, false, not, ◌&&◌, ◌||◌, cond, false≢true, true≢false}
+use mathlib.Core.Bool.{Bool, true, false, not, false≢true, true≢false}
 use mathlib.Core.List.{List}
 use mathlib.Core.Logic.{◌↔◌, ◌⊎◌, inl, inr, ⊎_elim}
 use Prim.Native.Nat.{ℕ, zero, suc, ◌+◌, ◌-◌, ◌*◌, ◌/◌, ◌%◌, ◌≤◌, ◌<◌}
 use native.Mathlib.Decide.{dec_le}
 use native.Mathlib.Omega.{arith}
-use lib.ListN.{length, get_or}
+use lib.ListN.{length}
 use lib.Dec.{eqb, leb}
-use borrow.Author.Tests.{eqb-true, eqb-false, eq-eqb, ne_eqb, le-leb, leb-true, leb-false, not-true, not-false}
+use borrow.Author.Tests.{eqb-true, eqb-false, eq-eqb, ne_eqb, leb-true, leb-false, not-true}
 use Rattle.paper.proofs.Counting.{both}
 use Rattle.limits.specs.declared.Setup.{Setup}
-use Rattle.limits.specs.Setup.{byte_a, byte_u, is_u}
+use Rattle.limits.specs.Setup.{byte_a, byte_u}
 use Rattle.run.specs.declared.Run.{Run}
 use Rattle.run.specs.declared.Reply.{Reply}
 use Rattle.run.specs.declared.Reply.TheVariants.{Accepted, Length, Malformed, Range, Inequality, Buffer, Rules}
 use Rattle.run.specs.declared.block.Shape.{Shape}
 use Rattle.run.specs.declared.record.Record.{Record}
 use Rattle.run.specs.Kinds as kind
-use Rattle.run.specs.Keeps.{Keeps}
 use Rattle.run.specs.First.{first}
-use Rattle.run.specs.Record.{record_bytes, record_at}
+use Rattle.run.specs.Record.{record_at}
 use Rattle.run.specs.Reply.{is_accepted, ◌then◌, or_refuse, refuse_at}
-use Rattle.run.specs.Run.{most_rounds, station_at, may_vote, vote_fits, may_decide, decision_fits, sound}
+use Rattle.run.specs.Run.{most_rounds, station_at, may_vote, vote_fits, decision_fits, sound}
 use Rattle.run.specs.Block.{plain, is_plain, record_of, block_fits, check_block}
 use Rattle.run.specs.Opening.{setup_in, check_head, check_default}
 use Rattle.run.proofs.First.{first_none, first_some}
@@ -59,10 +58,10 @@ use Rattle.image.specs.Image.{
   check_rules,
   check_image,
 }
-use Rattle.image.proofs.Images.{check_save_is, check_records_is, check_form_is, check_rules_is, check_blocks_is}
+use Rattle.image.proofs.Images.{check_save_is, check_records_is, check_form_is, check_blocks_is}
 use Rattle.round.proofs.Places.{receiver_of, sender_of}
 use Rattle.consensus.specs.OneReply.{Only}
-use Rattle.consensus.specs.OpeningReplies.{SetupThere, InRange, Headed, DefaultThere}
+use Rattle.consensus.specs.OpeningReplies.{Headed, DefaultThere}
 use Rattle.consensus.specs.ImageReplies.{
   InPlace,
   ImageWhole,
@@ -732,7 +731,7 @@ module _ (run : Run) (room : ℕ) where
       let Said : Reply → Type 0 = SaveReply run room in
       subst Said (sym (check_save_is run room))
       (test_then Said (sound run) (Rules 0) (or_refuse fits_room Buffer) refl
-      (λ e. SaveReply.unsound (λ keeps. false≢true (sym e ∙ (sound_iff run).1 keeps)))
+      (λ e. SaveReply.not_good (λ keeps. false≢true (sym e ∙ (sound_iff run).1 keeps)))
       (λ e.
       let keeps = (sound_iff run).0 e in
       test_by Said fits_room Buffer
@@ -740,7 +739,7 @@ module _ (run : Run) (room : ℕ) where
       (λ f. SaveReply.accepted keeps (eqb-true room (image_length run.setup.n) f))))
 
   save_alone : (r : Reply) → SaveReply run room r → r ≡ check_save run room
-  save_alone r (SaveReply.unsound bad) =
+  save_alone r (SaveReply.not_good bad) =
       sym (check_save_is run room ∙ rw (unless (sound run) (λ e. bad ((sound_iff run).0 e))))
   save_alone r (SaveReply.no_room keeps other) =
       sym

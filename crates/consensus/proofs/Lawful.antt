@@ -2,13 +2,12 @@
 -- accepted step is such a step of the paper (the judge's Steps), and what is offered is its rounds up to the first that
 -- is refused (Taken). By induction on that.
 use mathlib.Core.Path.{◌≡◌, refl, ap, sym, ◌∙◌, subst, subst₃}
-use mathlib.Core.Bool.{Bool, true, false, cond}
+use mathlib.Core.Bool.{Bool, true, false}
 use mathlib.Core.List.Memᴰ
 use mathlib.Core.List.{List, [], ◌∷◌, ◌++◌}
 use mathlib.Core.Logic.{⊎_elim}
 use Prim.Native.Nat.{ℕ}
 use native.Mathlib.Numerals.{add-one}
-use native.Mathlib.Omega.{arith}
 use Rattle.paper.specs.Stations.{size}
 use Rattle.paper.specs.Heard as heard
 use Rattle.paper.specs.Setup as setup

@@ -4,7 +4,7 @@ use mathlib.Core.Path.{◌≡◌, refl, ap, sym, ◌∙◌, subst}
 use mathlib.Core.Bool.{Bool, true, false, not, ◌&&◌, false≢true}
 use mathlib.Core.List.{List}
 use mathlib.Core.Logic.{◌↔◌, ◌⊎◌, inl, inr, ⊎_elim}
-use Prim.Native.Nat.{ℕ, ◌+◌, ◌*◌, ◌≤◌, ◌<◌}
+use Prim.Native.Nat.{ℕ, ◌+◌, ◌≤◌, ◌<◌}
 use native.Mathlib.Omega.{arith}
 use lib.ListN.{length}
 use lib.Dec.{eqb, leb}
@@ -17,9 +17,8 @@ use Rattle.run.specs.declared.Reply.TheVariants.{Accepted, Length, Malformed, Ra
 use Rattle.run.specs.declared.block.Shape.{Shape}
 use Rattle.run.specs.declared.record.Record.{Record}
 use Rattle.run.specs.Kinds as kind
-use Rattle.run.specs.First.{first}
 use Rattle.run.specs.Record.{record_bytes, record_at}
-use Rattle.run.specs.Reply.{is_accepted, ◌then◌, or_refuse, refuse_at}
+use Rattle.run.specs.Reply.{is_accepted, ◌then◌, or_refuse}
 use Rattle.run.specs.Run.{in_range, default_fits}
 use Rattle.run.specs.Block.{plain, is_plain, block_fits, check_block}
 use Rattle.run.specs.Opening.{
@@ -37,7 +36,7 @@ use Rattle.run.specs.Opening.{
   check_write,
 }
 use Rattle.run.proofs.First.{first_some}
-use Rattle.run.proofs.Replies.{accepted_is, refused_isn't, then_end}
+use Rattle.run.proofs.Replies.{refused_isn't, then_end}
 use Rattle.run.proofs.Blocks.{is_plain_plain, plain_is, fits_at, check_block_accepted, check_block_refused}
 use Rattle.run.proofs.Heads.{
   check_setup_is,
@@ -264,7 +263,7 @@ module _ (bs : List ℕ) where
       (λ e. OpeningReply.misfit head (eqb-false (length bs) (opening_length s.n) e))
       (λ e.
       let long : OpeningWhole bs = eqb-true (length bs) (opening_length s.n) e in
-      default_by R head.range (OpeningReply.no_default_lem head long) (check_starts bs)
+      default_by R head.range (OpeningReply.no_default head long) (check_starts bs)
       (λ default.
       subst R (then_end (check_starts bs))
       (block_by 2 s.n starts_shape R
@@ -290,7 +289,7 @@ module _ (bs : List ℕ) where
       sym (check_opening_is bs ∙ rw (head_4 there range not_met))
   opening_alone r (OpeningReply.misfit head other) =
       sym (past_head head ∙ rw (ne_eqb (length bs) (opening_length s.n) other))
-  opening_alone r (OpeningReply.no_default_lem head long none) =
+  opening_alone r (OpeningReply.no_default head long none) =
       sym (past_whole head long ∙ rw (default_2 head.range none))
   opening_alone r (OpeningReply.no_start p head long default l before none) =
       sym
@@ -344,7 +343,7 @@ module _ (s : Setup) (d : ℕ) (starts : List ℕ) (room : ℕ) where
       (setup_by s W WriteOpeningReply.out_of_range WriteOpeningReply.unmet default_on
       (λ range meets.
       test_then W (default_fits s d) (Malformed 1) ends_on refl
-      (λ e. let (a, z) = misfit range e in WriteOpeningReply.no_default_lem range meets a z)
+      (λ e. let (a, z) = misfit range e in WriteOpeningReply.no_default range meets a z)
       (λ e.
       let default = (fits range).0 e in
       test_then W (starts_end s starts) (Malformed (2 + s.n)) (or_refuse fits_room Buffer) refl
@@ -365,7 +364,7 @@ module _ (s : Setup) (d : ℕ) (starts : List ℕ) (room : ℕ) where
   write_alone r (WriteOpeningReply.out_of_range out) = sym (check_write_is s d starts room ∙ rw (setup_3 s out))
   write_alone r (WriteOpeningReply.unmet range not_met) =
       sym (check_write_is s d starts room ∙ rw (setup_4 s range not_met))
-  write_alone r (WriteOpeningReply.no_default_lem range meets a z) =
+  write_alone r (WriteOpeningReply.no_default range meets a z) =
       sym (past_setup range meets ∙ rw (unless (default_fits s d) (λ e. z ((fits range).0 e a))))
   write_alone r (WriteOpeningReply.no_end range meets default none) =
       sym (past_fits range meets default ∙ rw (unless (starts_end s starts) (λ e. none (ends_iff.0 e))))

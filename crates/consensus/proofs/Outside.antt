@@ -15,7 +15,6 @@ use Rattle.paper.specs.Stations.{Stations, one}
 use Rattle.paper.specs.Heard as heard
 use Rattle.paper.specs.Setup as setup
 use Rattle.paper.specs.Rules as rules
-use Rattle.paper.specs.Run as paper
 use Rattle.paper.proofs.MostOften.{Received}
 use Rattle.paper.proofs.Pins.{no_value_no_firing}
 use Rattle.run.specs.Run.{stations}

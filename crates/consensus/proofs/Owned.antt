@@ -3,13 +3,12 @@
 use mathlib.Core.Path.{◌≡◌, ap, sym, ◌∙◌}
 use mathlib.Core.Bool.{true}
 use mathlib.Core.List.{List, [], ◌∷◌}
-use Prim.Native.Nat.{ℕ, suc, ◌≤◌, ◌<◌}
+use Prim.Native.Nat.{ℕ, ◌≤◌, ◌<◌}
 use native.Mathlib.Omega.{arith}
 use lib.Count.{ones}
 use lib.ListN.{length, get_or, length-append}
 use Rattle.paper.specs.Stations.{Stations, size}
 use Rattle.paper.specs.Heard as heard
-use Rattle.paper.specs.Rules as rules
 use Rattle.run.specs.declared.Run.{Run}
 use Rattle.run.specs.declared.Reply.TheVariants.{Accepted}
 use Rattle.run.specs.Reply.{is_accepted}
@@ -19,7 +18,7 @@ use Rattle.run.proofs.Filled.{filled_below}
 use Rattle.hearing.specs.declared.Survey.{Survey}
 use Rattle.hearing.specs.Masks.{mask}
 use Rattle.round.specs.Reading.{check_reading}
-use Rattle.round.specs.Bridge.{heard_in, station, sent_next, paper_setup}
+use Rattle.round.specs.Bridge.{heard_in, station, sent_next}
 use Rattle.hearing.specs.Survey.{ho_sets, sho_sets, survey_of}
 use Rattle.hearing.proofs.Masks.{ones_mask}
 use Rattle.play.specs.declared.Played.{Played}

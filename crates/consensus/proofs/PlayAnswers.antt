@@ -3,7 +3,7 @@
 use mathlib.Core.Path.{◌≡◌, refl, ap, sym, ◌∙◌, subst}
 use mathlib.Core.Bool.{Bool, true, false, false≢true}
 use mathlib.Core.List.{List, [], ◌∷◌}
-use Prim.Native.Nat.{ℕ, zero, suc, ◌+◌, ◌*◌, ◌≤◌, ◌<◌}
+use Prim.Native.Nat.{ℕ, zero, suc, ◌≤◌, ◌<◌}
 use native.Mathlib.Nat.{le_refl}
 use native.Mathlib.Numerals.{add-one}
 use native.Mathlib.Omega.{arith}
@@ -11,14 +11,14 @@ use lib.ListN.{length, length-drop}
 use Rattle.limits.specs.declared.Setup.{Setup}
 use Rattle.run.specs.declared.Run.{Run}
 use Rattle.run.specs.declared.Reply.{Reply}
-use Rattle.run.specs.declared.Reply.TheVariants.{Accepted, Rules}
+use Rattle.run.specs.declared.Reply.TheVariants.{Accepted}
 use Rattle.run.specs.Keeps.{Keeps}
 use Rattle.run.specs.Reply.{is_accepted}
 use Rattle.run.specs.Run.{sound}
 use Rattle.run.proofs.Replies.{accepted_is, refused_isn't}
 use Rattle.run.proofs.Sound.{sound_iff}
 use Rattle.round.specs.Reading.{round_length}
-use Rattle.judge.specs.Step.{check_step, step_of}
+use Rattle.judge.specs.Step.{step_of}
 use Rattle.judge.proofs.Steps.{passed, reply_is, keeps_next, setup_same}
 use Rattle.play.specs.declared.Played.{Played}
 use Rattle.play.specs.Play.{cut, ended, more, take_rounds, rounds_of, play_of}
@@ -128,7 +128,7 @@ play_holds run bs = go (sound run) refl
         ((sound_iff run).0 e))
     go false e =
         subst (Answers run bs) (sym (play_bad run bs e))
-        (Plays.unsound (λ keeps. false≢true (sym e ∙ (sound_iff run).1 keeps)))
+        (Plays.not_good (λ keeps. false≢true (sym e ∙ (sound_iff run).1 keeps)))
 
 -- ---- and nothing else is
 abbrev told : Run → Reply → ℕ → Played
@@ -136,7 +136,7 @@ told next r k = record { run = next; reply = r; rounds = k }
 
 pub play_alone : (run : Run) (bs : List ℕ) (next : Run) (r : Reply) (k : ℕ) → Plays step_of run bs next r k
     → told next r k ≡ play_of run bs
-play_alone run bs next r k (Plays.unsound bad) =
+play_alone run bs next r k (Plays.not_good bad) =
     sym (play_bad run bs (unless (sound run) (λ e. bad ((sound_iff run).0 e))))
 play_alone run bs next r k (Plays.over keeps) = sym (play_none run ((sound_iff run).1 keeps))
 play_alone run bs next r k (Plays.refused keeps some says refusal) =

@@ -36,17 +36,16 @@ use Rattle.run.specs.Keeps.{Keeps}
 use Rattle.run.specs.Record.{record_at}
 use Rattle.run.specs.Reply.{is_accepted, ◌then◌, or_refuse}
 use Rattle.run.specs.Run.{most_rounds, sound}
-use Rattle.run.proofs.Replies.{then_on, then_stop, or_refuse_accepted, refused_isn't, then_end}
+use Rattle.run.proofs.Replies.{or_refuse_accepted, refused_isn't, then_end}
 use Rattle.run.proofs.Sound.{sound_iff}
 use Rattle.limits.specs.Setup.{is_u, setup_of}
-use Rattle.round.specs.declared.Cell.{Cell}
 use Rattle.round.specs.declared.Cell.TheVariants as cell
 use Rattle.round.specs.Cells.{cell_record, cell_fits, check_cell}
 use Rattle.round.specs.Reading.{in_turn, votes_next, round_length, row_part, check_row, check_cells, check_reading}
 use Rattle.round.specs.Bridge.{heard_in, station, kind_next, sent_next, paper_setup}
 use Rattle.round.proofs.Places.{receiver_of, sender_of, number_of, number_below, receiver_below, sender_below}
 use Rattle.round.proofs.Matrices.{record_in_row}
-use Rattle.round.proofs.Spelling.{cell_fits_iff, cell_record_fits, query_record, check_cell_accepted}
+use Rattle.round.proofs.Spelling.{cell_fits_iff, query_record, check_cell_accepted}
 use Rattle.round.proofs.Turns.{turn_accepted, turn_stop, turn_same, turn_rows}
 use Rattle.hearing.proofs.Hearing.{kind_votes}
 use Rattle.judge.specs.Step.{altered, safe, check_altered, check_safe, check_step}
@@ -67,7 +66,7 @@ use Rattle.consensus.specs.Round.{
   safe_at,
 }
 use Rattle.consensus.specs.RoundReplies.{StepReply, ReadReply}
-use Rattle.consensus.proofs.Asking.{then_by, test_by, test_then, turn_then, turn_by, unless, test_false}
+use Rattle.consensus.proofs.Asking.{test_by, test_then, turn_then, turn_by, unless, test_false}
 
 -- ---- the kind of the next round
 vote_by : (b u : Bool) → (cond b rules.vote (cond u rules.value rules.update) ≡ rules.vote) ↔ (b ≡ true)
@@ -426,7 +425,7 @@ module _ (run : Run) (bs : List ℕ) where
   step_holds : R (check_step run bs)
   step_holds =
       subst R (sym checks)
-      (test_then R (sound run) (Rules 0) (room_on run bs) refl (λ e. StepReply.unsound (bad_of e))
+      (test_then R (sound run) (Rules 0) (room_on run bs) refl (λ e. StepReply.not_good (bad_of e))
       (λ good.
       let keeps = (sound_iff run).0 good in
       test_then R (ltb run.clock most_rounds) Full (length_on run bs) refl
@@ -462,7 +461,7 @@ module _ (run : Run) (bs : List ℕ) where
         ∙ rw (altered_asked ∙ (turn_accepted altered_said n).1 (λ p h. said_few p (few_all p h)))
 
   step_alone : (r : Reply) → R r → r ≡ check_step run bs
-  step_alone r (StepReply.unsound bad) = sym (checks ∙ rw (unsound_is bad))
+  step_alone r (StepReply.not_good bad) = sym (checks ∙ rw (unsound_is bad))
   step_alone r (StepReply.is_full keeps full) = sym (past_sound keeps ∙ rw (le-ltb run.clock most_rounds full))
   step_alone r (StepReply.misfit ready other) = sym (past_room ready ∙ rw (ne_eqb (length bs) (round_length n) other))
   step_alone r (StepReply.malformed p q ready whole first bad) =
@@ -501,7 +500,7 @@ module _ (run : Run) (bs : List ℕ) where
   read_holds =
       subst Q (sym reading)
       (test_then Q (sound run) (Rules 0) (or_refuse long Length then check_cells voting n bs) refl
-      (λ e. ReadReply.unsound (bad_of e))
+      (λ e. ReadReply.not_good (bad_of e))
       (λ good.
       let keeps = (sound_iff run).0 good in
       test_then Q long Length (check_cells voting n bs) refl
@@ -520,7 +519,7 @@ module _ (run : Run) (bs : List ℕ) where
   past_whole keeps whole = past_good keeps ∙ rw (eq-eqb (length bs) (round_length n) whole)
 
   read_alone : (r : Reply) → Q r → r ≡ check_reading run bs
-  read_alone r (ReadReply.unsound bad) = sym (reading ∙ rw (unsound_is bad))
+  read_alone r (ReadReply.not_good bad) = sym (reading ∙ rw (unsound_is bad))
   read_alone r (ReadReply.misfit keeps other) =
       sym (past_good keeps ∙ rw (ne_eqb (length bs) (round_length n) other))
   read_alone r (ReadReply.malformed p q keeps whole first bad) =
@@ -539,7 +538,7 @@ read_replies run bs = record { holds = read_holds run bs; alone = read_alone run
 -- a round that is accepted is well formed and safe
 pub accepted_case : {run : Run} {bs : List ℕ} (r : Reply) → StepReply run bs r → r ≡ Accepted
     → Ready run × WellFormed run bs × paper.Safe (paper_setup run) (round_by_paper run bs)
-accepted_case r (StepReply.unsound bad) e = absurd (refused_isn't (Rules 0) refl e)
+accepted_case r (StepReply.not_good bad) e = absurd (refused_isn't (Rules 0) refl e)
 accepted_case r (StepReply.is_full keeps full) e = absurd (refused_isn't Full refl e)
 accepted_case r (StepReply.misfit ready other) e = absurd (refused_isn't Length refl e)
 accepted_case r (StepReply.malformed p q ready whole first bad) e = absurd (refused_isn't (Malformed _) refl e)

@@ -2,7 +2,7 @@
 -- records; so what is read and written, which is spelled record by record, is one run, one matrix and one row of bytes.
 -- Playing and the two entries are made of these.
 use mathlib.Core.Path.{◌≡◌, refl, ap, ap₂, sym, ◌∙◌, subst}
-use mathlib.Core.Bool.{Bool, true, false, cond}
+use mathlib.Core.Bool.{Bool, true, false}
 use mathlib.Core.List.{List}
 use Prim.Native.Nat.{ℕ, ◌+◌, ◌-◌, ◌*◌, ◌/◌, ◌%◌, ◌^◌, ◌≤◌, ◌<◌}
 use native.Mathlib.Decide.{dec_le}
@@ -15,7 +15,6 @@ use Rattle.run.specs.declared.Station.{Station}
 use Rattle.run.specs.declared.Opened.{Opened}
 use Rattle.run.specs.declared.Reply.{Reply}
 use Rattle.run.specs.declared.Reply.TheVariants.{Accepted}
-use Rattle.run.specs.declared.record.Record.{Record}
 use Rattle.run.specs.Bytes.{IsBytes}
 use Rattle.run.specs.Keeps.{Keeps}
 use Rattle.run.specs.Machine.{Words, Machine}
@@ -23,32 +22,25 @@ use Rattle.run.specs.Opening.{setup_in, read_opening, check_write}
 use Rattle.run.specs.Record.{record_bytes, record_at, record_from}
 use Rattle.run.specs.Reply.{is_accepted}
 use Rattle.run.specs.Run.{stations, run_of, station_at}
-use Rattle.run.specs.Written.{written}
 use Rattle.run.proofs.Built.{built_same, built_whole}
 use Rattle.run.proofs.Bytes.{bytes_take, bytes_drop}
 use Rattle.run.proofs.Number.{number_four}
 use Rattle.run.proofs.Openings.{opened_reply}
 use Rattle.run.proofs.Records.{record_at_in}
-use Rattle.run.proofs.Replies.{accepted_is}
 use Rattle.run.proofs.Sound.{sound_iff}
 use Rattle.run.proofs.Written.{written_same, written_record_at}
-use Rattle.image.specs.Image.{image, run_in, check_image, check_save, loaded}
+use Rattle.image.specs.Image.{image, run_in, check_save, loaded}
 use Rattle.image.proofs.Images.{length_image, saving_accepted, saved_image, loaded_reply}
 use Rattle.image.proofs.Loaded.{loaded_machine}
 use Rattle.image.proofs.Saved.{image_again}
-use Rattle.round.specs.declared.Cell.{Cell}
 use Rattle.round.specs.declared.Matrix.{Matrix}
-use Rattle.round.specs.declared.Reading.{Reading}
-use Rattle.round.specs.Cells.{cell_record, cell_in}
-use Rattle.round.specs.Reading.{cell_of, read_round, matrix_of}
+use Rattle.round.specs.Cells.{cell_in}
+use Rattle.round.specs.Reading.{cell_of}
 use Rattle.round.proofs.Matrices.{matrix_again, matrix_same}
 use Rattle.round.proofs.Places.{number_of, receiver_below, sender_below}
 use Rattle.round.proofs.Spelling.{cell_record_in}
 use Rattle.writing.specs.Writing.{IsMatrix, check_writing}
-use Rattle.hearing.specs.declared.Survey.{Survey}
-use Rattle.judge.specs.declared.Stepped.{Stepped}
 use Rattle.judge.specs.Step.{step_of}
-use Rattle.play.specs.declared.Played.{Played}
 use Rattle.play.specs.Play.{play_of}
 use Rattle.consensus.specs.Judge.{Wrote, Judge, ours}
 use Rattle.consensus.specs.OneReply.{Only}
@@ -60,7 +52,7 @@ use Rattle.consensus.specs.EntryAnswers.{OpenAnswer, StepAnswer}
 use Rattle.consensus.specs.Spelled.{SetupOf, OpeningOf, ImageOf, RoundOf}
 use Rattle.consensus.specs.SameAnswer.{SameAnswer, SameJudge}
 use Rattle.consensus.specs.Demand1.{Demand1}
-use Rattle.consensus.specs.Demand2.{SetsOf, Demand2}
+use Rattle.consensus.specs.Demand2.{Demand2}
 use Rattle.consensus.proofs.OpeningReplies.{opening_replies, write_opening_replies}
 use Rattle.consensus.proofs.ImageReplies.{image_replies, save_replies}
 use Rattle.consensus.proofs.WritingReplies.{write_round_replies}
@@ -404,7 +396,7 @@ module _ (J : Judge) (one : Demand1 J) (two : Demand2 J) where
   play_told : {run next : Run} {bs : List ℕ} {r : Reply} {k : ℕ} → Machine run → IsBytes bs
       → Plays J.step run bs next r k → Plays step_of run bs next r k
   unfolding ours
-  play_told machine bytes (Plays.unsound bad) = Plays.unsound bad
+  play_told machine bytes (Plays.not_good bad) = Plays.not_good bad
   play_told machine bytes (Plays.over keeps) = Plays.over keeps
   play_told machine bytes (Plays.refused keeps some says refusal) = Plays.refused keeps some says refusal
   play_told machine bytes (Plays.on {run = run} {next = next} {bs = bs} {r = r} {k = k} keeps some says rest) =

@@ -16,7 +16,7 @@ use Rattle.run.specs.Bytes.{IsBytes}
 use Rattle.run.specs.Kinds as kind
 use Rattle.run.specs.Keeps.{Keeps}
 use Rattle.run.specs.Machine.{Words, Machine}
-use Rattle.run.specs.Number.{base, two_bytes}
+use Rattle.run.specs.Number.{two_bytes}
 use Rattle.run.specs.Record.{record_bytes, record_at, record_from, Fits}
 use Rattle.run.specs.Reply.{is_accepted}
 use Rattle.run.specs.Run.{stations, station_at}

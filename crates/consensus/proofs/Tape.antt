@@ -22,7 +22,7 @@ use Rattle.writing.proofs.Rounds.{read_written_into}
 use Rattle.judge.specs.Step.{step_of}
 use Rattle.judge.proofs.Steps.{reply_is}
 use Rattle.consensus.specs.Judge.{ours}
-use Rattle.consensus.specs.RoundReplies.{StepReply, ReadReply}
+use Rattle.consensus.specs.RoundReplies.{ReadReply}
 use Rattle.consensus.specs.Tape.{AcceptedInTurn, blank_for, rounds_again, tape_again}
 use Rattle.consensus.proofs.RoundReplies.{step_replies, read_replies, accepted_case}
 

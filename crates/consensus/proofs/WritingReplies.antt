@@ -171,7 +171,7 @@ module _ (run : Run) (m : Matrix) (room : ℕ) where
   write_holds =
       subst R (sym checks)
       (test_then R (sound run) (Rules 0) (check_queries voting n m then outside_on) refl
-      (λ e. WriteRoundReply.unsound (λ keeps. false≢true (sym e ∙ (sound_iff run).1 keeps)))
+      (λ e. WriteRoundReply.not_good (λ keeps. false≢true (sym e ∙ (sound_iff run).1 keeps)))
       (λ good. go ((sound_iff run).0 good) voting refl))
     where
       go : Keeps run → (b : Bool) → voting ≡ b → R (check_queries voting n m then outside_on)
@@ -183,7 +183,7 @@ module _ (run : Run) (m : Matrix) (room : ℕ) where
           (outside_holds keeps)
 
   write_alone : (r : Reply) → R r → r ≡ check_writing run m room
-  write_alone r (WriteRoundReply.unsound bad) =
+  write_alone r (WriteRoundReply.not_good bad) =
       sym (checks ∙ rw (unless (sound run) (λ e. bad ((sound_iff run).0 e))))
   write_alone r (WriteRoundReply.query p q keeps lp lq x before) =
       let plain : voting ≡ false = unless voting (λ v. none_in_vote v p q x) in

@@ -7,7 +7,6 @@ use Rattle.paper.specs.Heard.{HO, SHO}
 use Rattle.paper.specs.Run as paper
 use Rattle.limits.specs.declared.Setup.{Setup}
 use Rattle.run.specs.declared.Run.{Run}
-use Rattle.run.specs.declared.Opened.{Opened}
 use Rattle.run.specs.declared.Reply.TheVariants.{Accepted}
 use Rattle.run.specs.Bytes.{IsBytes}
 use Rattle.run.specs.Keeps.{Keeps}

@@ -2,7 +2,7 @@
 -- buffer is the listing.
 use mathlib.Core.Path.{◌≡◌, sym, ◌∙◌}
 use mathlib.Core.Bool.{true, false}
-use mathlib.Core.List.{List, [], ◌∷◌, ◌++◌, flatten, append-nil}
+use mathlib.Core.List.{List, [], ◌∷◌, flatten, append-nil}
 use Prim.Native.Nat.{ℕ}
 use lib.ListN.{length}
 use Rattle.run.specs.declared.Run.{Run}

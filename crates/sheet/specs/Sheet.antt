@@ -10,7 +10,7 @@ use Rattle.limits.specs.declared.Setup.{Setup}
 use Rattle.run.specs.declared.Run.{Run}
 use Rattle.run.specs.Opening.{opening, read_opening}
 use Rattle.run.specs.Reply.{number_of, place_of}
-use Rattle.run.specs.Run.{run_to, run_of, at_start, idle}
+use Rattle.run.specs.Run.{run_of, at_start, idle}
 use Rattle.run.specs.Written.{written}
 use Rattle.round.specs.declared.Cell.{Cell}
 use Rattle.round.specs.declared.Cell.TheVariants.{Lost, Value, Query}
