@@ -1,4 +1,4 @@
--- Demand 3, about `step_of_lem` and `play_of`, which the promises of `step` and `play` cite: for any bytes that are
+-- Demand 3, about `step_of` and `play_of`, which the promises of `step` and `play` cite: for any bytes that are
 -- accepted as an opening, and whatever is then offered one after another, of any length and content, refused ones among
 -- them.
 use Rattle.std.specs.Prelude.{◌≡◌, List, ℕ, ◌<◌, length, get_or}
