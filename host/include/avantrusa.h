@@ -6,7 +6,7 @@
  *     uint64_t answer = avantrusa_open(opening, opening_len, image, avantrusa_image_length(n));
  *     answer = avantrusa_step(image, avantrusa_image_length(n), round, avantrusa_round_length(n));
  *
- * Compile c/avantrusa.c with the host, and link with libswitch.a (made by `rt staticlib switch`).
+ * Compile c/avantrusa.c with the host, and link with libswitch.a (made by `host/archive`).
  *
  * "Rule 11.2" and the like are numbers of docs/RULES.md, the whole of what the judge does; its
  * section 15 is what a host may rely on.

@@ -11,7 +11,7 @@ use std::time::Instant;
 const PASSES: usize = 12;
 
 fn program() -> PathBuf {
-    let usual = Path::new(env!("CARGO_MANIFEST_DIR")).join("../../target/bin/listing");
+    let usual = Path::new(env!("CARGO_MANIFEST_DIR")).join("../../crates/listing/out/listing");
     std::env::var_os("LISTING").map_or(usual, PathBuf::from)
 }
 

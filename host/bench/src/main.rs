@@ -1,6 +1,6 @@
 //! How fast the judge is, beside the independent one in Rust: both in one run on one machine, both built for release.
 //! `bench [--strict]` prints tables in Markdown. With `--strict` the exit status is 1 if the judge takes longer than Rust
-//! anywhere. LISTING names the listing program, else it is target/bin/listing of the repository.
+//! anywhere. LISTING names the listing program, else it is crates/listing/out/listing of the repository.
 //!
 //! A time is the shortest of many passes. All loads and both judges take turns, so that a slow spell of the machine falls on
 //! all of them alike.
