@@ -7,9 +7,12 @@ ghost use Rattle.std.specs.Prelude.{◌+◌, ◌≤◌, length};
 ghost use Rattle.run.specs.Tape.{longest_opening};
 ghost use Rattle.lines.specs.Text.{longest};
 
-use libc::{STDIN_FILENO, STDOUT_FILENO};
 use round::read;
 use run::{Run, tape};
+
+const STDIN_FILENO: i32 = 0; // standard input
+
+const STDOUT_FILENO: i32 = 1; // standard output
 
 const ROUND: usize = Run::RECORD * Run::STATIONS * Run::STATIONS; // the bytes of the longest round
 

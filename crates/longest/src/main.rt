@@ -2,11 +2,12 @@
 // stack is measured.
 #![tactic(auto)]
 
-use libc::STDOUT_FILENO;
 use limits::Setup;
 use put::{opening, records};
 use run::record::Record;
 use run::{Run, kinds};
+
+const STDOUT_FILENO: i32 = 1; // standard output
 
 const CELLS: usize = 16384; // four in each round
 

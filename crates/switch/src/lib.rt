@@ -1,5 +1,5 @@
 // The switch's entries, for a host in C or Rust: a run opened into a lent image, and a lent image stepped by a lent
-// round (rules 15).
+// round (rules 15). The crate switch_c exports them.
 #![tactic(auto)]
 
 ghost use Rattle.std.specs.Prelude.{◌≡◌};
@@ -19,8 +19,7 @@ fn answer(reply: Reply) -> u64
 }
 
 // Opens a run into a buffer of exactly its image's length: the opening's refusals, then 9. A refusal writes no byte.
-#[unsafe(no_mangle)]
-pub extern "C" fn judge_open(opening: &[u8], image: &mut [u8]) -> u64
+pub fn judge_open(opening: &[u8], image: &mut [u8]) -> u64
     ensures reply { result ≡ answer_of (open_reply opening.now image.old) }
     ensures bytes { image.new ≡ open_image opening.now image.old }
 {
@@ -40,8 +39,7 @@ pub extern "C" fn judge_open(opening: &[u8], image: &mut [u8]) -> u64
 
 // Steps an image by one round: the image's refusals, then the round's. An accepted round has it rewritten;
 // a refusal writes no byte.
-#[unsafe(no_mangle)]
-pub extern "C" fn judge_step(image: &mut [u8], round: &[u8]) -> u64
+pub fn judge_step(image: &mut [u8], round: &[u8]) -> u64
     ensures reply { result ≡ answer_of (step_reply image.old round.now) }
     ensures bytes { image.new ≡ step_image image.old round.now }
 {

@@ -1,7 +1,8 @@
 // What a line says, printed on standard output.
-use libc::STDOUT_FILENO;
 use limits::Setup;
 use run::{Opened, Reply, Run};
+
+const STDOUT_FILENO: i32 = 1; // standard output
 
 const A: u8 = 1; // the algorithm's byte
 

@@ -2,9 +2,10 @@
 ghost use Rattle.std.specs.Prelude.{◌≤◌, length};
 
 use super::print;
-use libc::STDIN_FILENO;
 use limits::Setup;
 use run::Run;
+
+const STDIN_FILENO: i32 = 0; // standard input
 
 pub fn byte() -> u8 {
     let mut bytes = [0u8; 1];
