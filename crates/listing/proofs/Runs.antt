@@ -1,9 +1,6 @@
 -- What the program's loop rests on: a run's rounds fit the buffer for them, and with each page fewer may follow.
-use mathlib.Core.Path.{◌≡◌, refl}
-use mathlib.Core.Bool.{Bool, true, false, cond}
-use Prim.Native.Nat.{ℕ, suc, ◌-◌, ◌≤◌, ◌<◌}
-use native.Mathlib.Nat.{mul-le-mul, mul-le-mul_left}
-use native.Mathlib.Omega.{arith}
+use Rattle.std.proofs.Common.{◌≡◌, refl, ℕ, suc, ◌-◌, ◌≤◌, ◌<◌, Bool, true, false, cond, arith}
+use Rattle.std.proofs.Math.Nat.{mul-le-mul, mul-le-mul_left}
 use Rattle.run.specs.Keeps.{Keeps}
 use Rattle.run.specs.Record.{record_bytes}
 use Rattle.run.specs.Run.{stations, most_rounds}
