@@ -8,12 +8,13 @@ clauses of .rt files and, between backquotes, in comments and pages. A name that
 same way where no file of the kit's library has it. The paper's own letters and names (T, E, A, U, HO, SHO, AHO, R, Q,
 alpha) stay where they stand alone. --list prints the table and writes nothing.
 """
-import glob
 import os
 import re
+import subprocess
 import sys
 
-KIT = "/opt/rattle/rattle"
+# the kit's library, beside the page that `rt doc` names
+KIT = os.path.join(os.path.dirname(subprocess.check_output(["rt", "doc"], text=True).strip()), "rattle")
 TOKEN = re.compile(r"[^\s(){}\[\].,;:\"`@|]+")
 HEAD = re.compile(r"^(\s*)((?:(?:unfoldable|abbrev|pub|record|data|module)\s+)*)([^\s(){}\[\].,;:\"`@|]+)((?:\s+[^\s(){}\[\].,;:\"`@|→=]+)*)\s*(:|\()")
 # spellings that the rule would not give
