@@ -190,16 +190,16 @@ module _ (bs : List ℕ) where
   pub default_iff : InRange s → (check_default bs ≡ Accepted) ↔ DefaultThere bs
   unfolding plain
   default_iff range =
-      let Fits-iff = default_fits_iff s (default_in bs) ((range_iff s).1 range) in (
+      let fits_iff = default_fits_iff s (default_in bs) ((range_iff s).1 range) in (
         λ e.
             let (is, fits) = (check_default_accepted bs).0 e in
-            (default_in bs, plain_is kind.DEFAULT 0 (record_at bs 1) is, Fits-iff.0 fits),
+            (default_in bs, plain_is kind.DEFAULT 0 (record_at bs 1) is, fits_iff.0 fits),
         λ d.
             let (x, is, zero) = d in
             let same : default_in bs ≡ x = ap (λ (r : Record). r.number) is in
             (check_default_accepted bs).1 (
               ap (is_plain kind.DEFAULT 0) is ∙ is_plain_plain kind.DEFAULT 0 x,
-              Fits-iff.1 (λ a. same ∙ zero a),
+              fits_iff.1 (λ a. same ∙ zero a),
             ),
       )
 

@@ -22,7 +22,14 @@ use Rattle.round.specs.Reading.{votes_next, numbered, cell_of, round_length}
 use Rattle.round.proofs.Places.{receiver_of, sender_of, number_of, number_below, receiver_below, sender_below}
 use Rattle.round.proofs.Turns.{turn_accepted, turn_stop}
 use Rattle.writing.specs.Writing.{is_query, is_lost, check_queries, check_outside, check_writing}
-use Rattle.writing.proofs.Writings.{query_said, queries_voted, queries_asked, place_said, outside_asked, outside_accepted}
+use Rattle.writing.proofs.Writings.{
+  query_said,
+  queries_voted,
+  queries_asked,
+  place_said,
+  outside_asked,
+  outside_accepted,
+}
 use Rattle.consensus.specs.OneReply.{Only}
 use Rattle.consensus.specs.WritingReplies.{QueryAt, NoQuery, LostOutside, WriteRoundReply}
 use Rattle.consensus.proofs.Asking.{then_by, test_by, test_then, turn_then, first_refusal, unless, test_false}

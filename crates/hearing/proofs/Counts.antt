@@ -353,10 +353,10 @@ module _ {n : ℕ} {enough : ℕ → Bool} {row : Row} {left : ℕ} {t : Tally} 
   next_below = next_waits.0
 
   -- all who sent its value stand from it on
-  module _ (v : ℕ) (codes : List ℕ) (v-is : v ≡ value_of (row (count_trailing_zeros stations left)))
+  module _ (v : ℕ) (codes : List ℕ) (v_is : v ≡ value_of (row (count_trailing_zeros stations left)))
       (codes_are : codes ≡ filled stations n (λ q. code_of (row q)) 0) where
     waits_v : c.waits v ≡ true
-    waits_v = rw v-is (left_value c.waits (row (count_trailing_zeros stations left)) next_waits.1).1
+    waits_v = rw v_is (left_value c.waits (row (count_trailing_zeros stations left)) next_waits.1).1
 
     from_next : All n (λ q. from_on codes (count_trailing_zeros stations left) v q ≡ R row v q)
     unfolding R
@@ -375,9 +375,9 @@ module _ {n : ℕ} {enough : ℕ → Bool} {row : Row} {left : ℕ} {t : Tally} 
     senders_all = mask_cong n (from_on codes (count_trailing_zeros stations left) v) (R row v) from_next
 
   -- its value, and who sent that
-  module _ (v set : ℕ) (v-is : v ≡ value_of (row (count_trailing_zeros stations left))) (set_is : set ≡ mask n (R row v)) where
+  module _ (v set : ℕ) (v_is : v ≡ value_of (row (count_trailing_zeros stations left))) (set_is : set ≡ mask n (R row v)) where
     at_next : (row (count_trailing_zeros stations left) ≡ heard (val v)) × (c.waits v ≡ true)
-    at_next = rw v-is (left_value c.waits (row (count_trailing_zeros stations left)) next_waits.1)
+    at_next = rw v_is (left_value c.waits (row (count_trailing_zeros stations left)) next_waits.1)
 
     pub some_senders : (0 < set) × (set ≤ left)
     unfolding R holds

@@ -222,5 +222,5 @@ mask_lowest (suc n) (suc k) X h pos =
         (omega (arith, found.0), found.1, none_under found.2)
       where
         none_under : ((i : ℕ) → i < rest → X (suc i) ≡ false) → (i : ℕ) → i < suc rest → X i ≡ false
-        none_under Under-rest zero l = e
-        none_under Under-rest (suc i) l = Under-rest i (omega arith)
+        none_under under_rest zero l = e
+        none_under under_rest (suc i) l = under_rest i (omega arith)

@@ -1,7 +1,31 @@
 -- The listing's lines (rules 14.2 to 14.6), each a list of bytes.
-use Rattle.std.specs.Prelude.{◌≡◌, Bool, true, false, cond, List, [], ◌∷◌, ◌++◌, ℕ, zero, suc, ◌+◌, ◌*◌, ◌/◌, ◌%◌, leb, ltb, length, take, drop, get_or, replicate}
+use Rattle.std.specs.Prelude.{
+  ◌≡◌,
+  Bool,
+  true,
+  false,
+  cond,
+  List,
+  [],
+  ◌∷◌,
+  ◌++◌,
+  ℕ,
+  zero,
+  suc,
+  ◌+◌,
+  ◌*◌,
+  ◌/◌,
+  ◌%◌,
+  leb,
+  ltb,
+  length,
+  take,
+  drop,
+  get_or,
+  replicate,
+}
 use Prim.Native.Char.{code}
-use Prim.Native.String.{String, [] as no_text, ◌∷◌ as ◌then-text◌}
+use Prim.Native.String.{String, [] as no_text, ◌∷◌ as ◌then_text◌}
 use Rattle.limits.specs.declared.Setup.{Setup}
 use Rattle.limits.specs.Setup.{is_u}
 use Rattle.run.specs.declared.Run.{Run}
@@ -19,7 +43,7 @@ pub record Put (before : List ℕ) (at : ℕ) (text : List ℕ) (end : ℕ) (aft
 -- the codes of a text's characters: for ASCII, its bytes
 abbrev pub ascii : String → List ℕ
 ascii no_text = []
-ascii (c then-text s) = code c ∷ ascii s
+ascii (c then_text s) = code c ∷ ascii s
 
 abbrev pub line_end : List ℕ
 line_end = ascii "\n"

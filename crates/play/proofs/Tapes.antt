@@ -155,6 +155,10 @@ pub record First (kind : Kind) (run : Run) (bs : List ℕ) (a : Played) : Type 0
   pub awaits : Awaits kind run
   pub taken : a ≡ take_rounds run (take 1 (rounds_of run bs))
 
+pub first_is : (kind : Kind) (run : Run) (bs : List ℕ) {a : Played}
+    → Awaits kind run → a ≡ take_rounds run (take 1 (rounds_of run bs)) → First kind run bs a
+first_is kind run bs at told = record { awaits = at; taken = told }
+
 module _ {kind : Kind} {run : Run} {bs : List ℕ} {a : Played} (at : First kind run bs a) where
   -- where it does not count, there are no others
   pub stops : a.rounds ≡ 0 → a ≡ take_tape run bs

@@ -15,7 +15,7 @@ use lib.Seq.{get_or-set_same, get_or-set_other}
 use Rattle.run.specs.Record.{record_bytes, record_at}
 use Rattle.run.specs.Run.{stations}
 use Rattle.run.specs.Filled.{tabulate, filled}
-use Rattle.run.proofs.Filled.{length_tabulate, get_d_tabulate, tabulate_of, length_filled, filled_below}
+use Rattle.run.proofs.Filled.{length_tabulate, get_or_tabulate, tabulate_of, length_filled, filled_below}
 use Rattle.run.proofs.Records.{record_at_take, record_at_drop}
 use Rattle.round.proofs.Places.{receiver_of, sender_of, number_of, number_below, receiver_below, sender_below}
 use Rattle.round.specs.declared.Cell.{Cell}
@@ -50,7 +50,7 @@ module _ {ℓ} {A : Type ℓ} where
       at : (j : ℕ) → j < m → (t : Bool) → eqb j i ≡ t → get_or (set (tabulate m f) i v) j v ≡ g j
       at j b true q = rw (eqb-true j i q) (get_or-set_same (tabulate m f) i v v (rw length_tabulate l) ∙ e)
       at j b false q =
-          get_or-set_other (tabulate m f) i j v v (eqb-false j i q) ∙ get_d_tabulate m f j v b
+          get_or-set_other (tabulate m f) i j v v (eqb-false j i q) ∙ get_or_tabulate m f j v b
           ∙ other j b (eqb-false j i q)
 
   -- an array that is filled to its end
@@ -93,7 +93,7 @@ pub numbered_of : (f : ℕ → ℕ → Cell) (k : ℕ) → k < stations * statio
     → numbered (matrix_of f) k ≡ f (k / stations) (k % stations)
 numbered_of f k l =
     ap (λ (l : List Slot). (get_or l k empty).cell) (matrix_slots f)
-    ∙ ap (λ (s : Slot). s.cell) (get_d_tabulate (stations * stations) (at_place f) k empty l)
+    ∙ ap (λ (s : Slot). s.cell) (get_or_tabulate (stations * stations) (at_place f) k empty l)
 
 pub cell_of_matrix : (f : ℕ → ℕ → Cell) (p q : ℕ) → p < stations → q < stations → cell_of (matrix_of f) p q ≡ f p q
 cell_of_matrix f p q lp lq =
@@ -222,7 +222,7 @@ row_past m p len h =
 row_cell : (m : Matrix) (p q : ℕ) → q < stations
     → get_or (row_slots m p) q empty ≡ get_or m.slots (stations * p + q) empty
 unfolding row_slots
-row_cell m p q l = get_d_tabulate stations (λ q. get_or m.slots (stations * p + q) empty) q empty l
+row_cell m p q l = get_or_tabulate stations (λ q. get_or m.slots (stations * p + q) empty) q empty l
 
 row_beyond : (m : Matrix) (p q : ℕ) → stations ≤ q → get_or (row_slots m p) q empty ≡ empty
 unfolding row_slots

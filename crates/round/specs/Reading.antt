@@ -1,5 +1,24 @@
 -- Rounds read: their form (rules 4.2 to 4.8), and the order of the checks (rule 12.5).
-use Rattle.std.specs.Prelude.{ℕ, zero, suc, ◌+◌, ◌*◌, ◌/◌, ◌%◌, Bool, ◌&&◌, cond, List, length, get_or, take, drop, replicate, eqb, ltb}
+use Rattle.std.specs.Prelude.{
+  ℕ,
+  zero,
+  suc,
+  ◌+◌,
+  ◌*◌,
+  ◌/◌,
+  ◌%◌,
+  Bool,
+  ◌&&◌,
+  cond,
+  List,
+  length,
+  get_or,
+  take,
+  drop,
+  replicate,
+  eqb,
+  ltb,
+}
 use Rattle.run.specs.declared.Reply.{Reply}
 use Rattle.run.specs.declared.Reply.TheVariants.{Accepted, Length, Rules}
 use Rattle.run.specs.declared.Run.{Run}

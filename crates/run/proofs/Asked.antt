@@ -1,19 +1,19 @@
 -- A callee's answer that the code tests is its definition's answer: what the branch taken tells of the definition.
 use mathlib.Core.Path.{◌≡◌, sym, ap, ◌∙◌}
-use mathlib.Core.Bool.{Bool, true, false, not}
+use mathlib.Core.Bool.{Bool, true, false}
 use Prim.Native.Nat.{ℕ}
-use borrow.Author.Tests.{not-true, not-false, eq-eqb, ne_eqb}
+use borrow.Author.Tests.{eq-eqb, ne_eqb}
 use Rattle.run.specs.declared.Reply.{Reply}
 use Rattle.run.specs.declared.Reply.TheVariants.{Accepted}
 use Rattle.run.specs.Reply.{number_of, is_accepted}
 use Rattle.run.proofs.Replies.{accepted_is}
 
 -- a test with `!`
-pub fails : {b t : Bool} → b ≡ t → not b ≡ true → t ≡ false
-fails {b} e h = sym e ∙ not-true b h
+pub fails : {b t : Bool} → b ≡ t → b ≡ false → t ≡ false
+fails e h = sym e ∙ h
 
-pub passes : {b t : Bool} → b ≡ t → not b ≡ false → t ≡ true
-passes {b} e h = sym e ∙ not-false b h
+pub passes : {b t : Bool} → b ≡ t → b ≡ true → t ≡ true
+passes e h = sym e ∙ h
 
 -- a reply, asked by its number
 pub refuses : {r s : Reply} {n : ℕ} → r ≡ s → n ≡ number_of r → (n ≡ 0 → ⊥) → is_accepted s ≡ false

@@ -23,17 +23,17 @@ module _ {ℓ} {A : Type ℓ} where
   length_tabulate zero f = refl
   length_tabulate (suc n) f = ap suc (length_tabulate n (λ i. f (suc i)))
 
-  pub get_d_tabulate : (n : ℕ) (f : ℕ → A) (i : ℕ) (e : A) → i < n → get_or (tabulate n f) i e ≡ f i
+  pub get_or_tabulate : (n : ℕ) (f : ℕ → A) (i : ℕ) (e : A) → i < n → get_or (tabulate n f) i e ≡ f i
   unfolding tabulate
-  get_d_tabulate zero f i e l = absurd (not-suc-le-zero l)
-  get_d_tabulate (suc n) f zero e l = refl
-  get_d_tabulate (suc n) f (suc i) e l = get_d_tabulate n (λ i. f (suc i)) i e (le_of_suc-le-suc l)
+  get_or_tabulate zero f i e l = absurd (not-suc-le-zero l)
+  get_or_tabulate (suc n) f zero e l = refl
+  get_or_tabulate (suc n) f (suc i) e l = get_or_tabulate n (λ i. f (suc i)) i e (le_of_suc-le-suc l)
 
   -- a list with n elements, element i being f i, is the table of f
   pub tabulate_of : (e : A) (n : ℕ) (f : ℕ → A) (l : List A) → length l ≡ n → ((i : ℕ) → i < n → get_or l i e ≡ f i) → l
       ≡ tabulate n f
   tabulate_of e n f l len h = ext_get_or e l (tabulate n f) (len
-      ∙ sym (length_tabulate n f)) (λ i b. rw (get_d_tabulate n f i e (omega arith)) (h i (omega arith)))
+      ∙ sym (length_tabulate n f)) (λ i b. rw (get_or_tabulate n f i e (omega arith)) (h i (omega arith)))
 
   pub length_filled : (m k : ℕ) (f : ℕ → A) (d : A) → length (filled m k f d) ≡ m
   unfolding filled
@@ -42,7 +42,7 @@ module _ {ℓ} {A : Type ℓ} where
   pub get_or_filled : (m k : ℕ) (f : ℕ → A) (d : A) (i : ℕ) (e : A) → i < m → get_or (filled m k f d) i e
       ≡ cond (ltb i k) (f i) d
   unfolding filled
-  get_or_filled m k f d i e l = get_d_tabulate m (λ i. cond (ltb i k) (f i) d) i e l
+  get_or_filled m k f d i e l = get_or_tabulate m (λ i. cond (ltb i k) (f i) d) i e l
 
   -- the two kinds of places
   pub filled_below : (m k : ℕ) (f : ℕ → A) (d : A) (i : ℕ) (e : A) → i < m → i < k → get_or (filled m k f d) i e ≡ f i

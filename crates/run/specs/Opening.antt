@@ -1,5 +1,23 @@
 -- Openings: their records, and the checks in the order of rules 12.1 and 12.2 (rules 3).
-use Rattle.std.specs.Prelude.{ℕ, ◌+◌, ◌*◌, ◌%◌, ◌/◌, Bool, true, ◌&&◌, cond, List, [], ◌++◌, length, get_or, eqb, leb, ltb}
+use Rattle.std.specs.Prelude.{
+  ℕ,
+  ◌+◌,
+  ◌*◌,
+  ◌%◌,
+  ◌/◌,
+  Bool,
+  true,
+  ◌&&◌,
+  cond,
+  List,
+  [],
+  ◌++◌,
+  length,
+  get_or,
+  eqb,
+  leb,
+  ltb,
+}
 use Rattle.paper.specs.Setup as setup
 use Rattle.paper.specs.Stations.{every}
 use Rattle.limits.specs.declared.Setup.{Setup}

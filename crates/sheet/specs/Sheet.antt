@@ -2,7 +2,24 @@
 -- things wrong. Each opening and each round is spelled in bytes; `read_opening` and `step_of`, which the promises of
 -- `Run::open` and `step` cite, say what is answered to them, and the test compares that with the table. proofs/Sheet.antt
 -- has the checker do so.
-use Rattle.std.specs.Prelude.{ℕ, suc, Bool, true, false, ◌&&◌, List, [], ◌∷◌, ◌++◌, map, eqb, length, get_or, set, replicate}
+use Rattle.std.specs.Prelude.{
+  ℕ,
+  suc,
+  Bool,
+  true,
+  false,
+  ◌&&◌,
+  List,
+  [],
+  ◌∷◌,
+  ◌++◌,
+  map,
+  eqb,
+  length,
+  get_or,
+  set,
+  replicate,
+}
 use Rattle.std.proofs.Math.Option.{Option, none, some}
 use Rattle.paper.specs.Stations.{one}
 use Rattle.run.specs.declared.Reply.{Reply}

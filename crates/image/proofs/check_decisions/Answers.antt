@@ -12,14 +12,14 @@ returns-then-not-decision_fits c =
     rw (
       c.rounds_from.ensures,
       first_here _ c.args.s.n _ none
-          (rw (← c.decision_fits.ensures) c.if-not-decision_fits.true-raw)
+          (rw (← c.decision_fits.ensures, c.if-not-decision_fits.true))
           (omega arith),
     )
 
 pub loop-i-preserved : goal.loop-i-preserved
 loop-i-preserved c =
     let none = c.loop-i.invariant.1 in
-    (omega arith, first_on _ _ none (rw (← c.decision_fits.ensures) c.if-not-decision_fits.false-raw))
+    (omega arith, first_on _ _ none (rw (← c.decision_fits.ensures, c.if-not-decision_fits.false)))
 
 pub returns : goal.returns
 unfolding check_decisions

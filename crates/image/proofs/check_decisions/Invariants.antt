@@ -10,7 +10,8 @@ use Rattle.image.proofs.check_decisions.Given as goal
 
 abbrev pub invariant-loop-i : goal.invariant-loop-i
 invariant-loop-i l =
-    (l.i ≤ l.n) × (first l.i (λ j. not (decision_fits l.s l.clock (get_or l.decided j false) (get_or l.rounds j 0))) ≡ none)
+    (l.i ≤ l.n)
+    × (first l.i (λ j. not (decision_fits l.s l.clock (get_or l.decided j false) (get_or l.rounds j 0))) ≡ none)
 
 abbrev pub decreases-loop-i : goal.decreases-loop-i
 decreases-loop-i l = l.n - l.i

@@ -27,19 +27,25 @@ returns-then-number-ne0 c =
 
 pub returns-then-bytes-image_length : goal.returns-then-bytes-image_length
 returns-then-bytes-image_length c =
-    let misfit = ne_eqb _ _ (rw (sized (goal.at.returns-then-bytes-image_length c).After-image_length) at c.if-bytes-image_length.true) in
-    rw (check_form_is, headed (goal.at.returns-then-bytes-image_length c).Else-number-ne0, misfit)
+    let after_image_length = (goal.at.returns-then-bytes-image_length c).After-image_length in
+    let else_number_ne0 = (goal.at.returns-then-bytes-image_length c).Else-number-ne0 in
+    let misfit = ne_eqb _ _ (rw (sized after_image_length) at c.if-bytes-image_length.true) in
+    rw (check_form_is, headed else_number_ne0, misfit)
 
 pub returns-then-number-ne0-2 : goal.returns-then-number-ne0-2
 returns-then-number-ne0-2 c =
+    let after_image_length = (goal.at.returns-then-number-ne0-2 c).After-image_length in
+    let else_number_ne0 = (goal.at.returns-then-number-ne0-2 c).Else-number-ne0 in
     let no = refuses c.check_default-default.ensures c.number-2.ensures c.if-number-ne0-2.true in
-    let whole = eq-eqb _ _ (rw (sized (goal.at.returns-then-number-ne0-2 c).After-image_length) at c.if-bytes-image_length.false) in
-    rw (check_form_is, headed (goal.at.returns-then-number-ne0-2 c).Else-number-ne0, whole, no)
+    let whole = eq-eqb _ _ (rw (sized after_image_length) at c.if-bytes-image_length.false) in
+    rw (check_form_is, headed else_number_ne0, whole, no)
     c.check_default-default.ensures
 
 pub returns : goal.returns
 returns c =
+    let after_image_length = (goal.at.returns c).After-image_length in
+    let else_number_ne0 = (goal.at.returns c).Else-number-ne0 in
     let yes = accepts c.check_default-default.ensures c.number-2.ensures c.if-number-ne0-2.false in
-    let whole = eq-eqb _ _ (rw (sized (goal.at.returns c).After-image_length) at c.if-bytes-image_length.false) in
-    rw (check_form_is, headed (goal.at.returns c).Else-number-ne0, whole, yes)
+    let whole = eq-eqb _ _ (rw (sized after_image_length) at c.if-bytes-image_length.false) in
+    rw (check_form_is, headed else_number_ne0, whole, yes)
     (rw c.setup_in-n.ensures at c.check_records.ensures)

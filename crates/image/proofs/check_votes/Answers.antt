@@ -12,14 +12,14 @@ returns-then-not-vote_fits c =
     rw (
       c.votes_from.ensures,
       first_here _ c.args.s.n _ none
-          (rw (← c.vote_fits.ensures) c.if-not-vote_fits.true-raw)
+          (rw (← c.vote_fits.ensures, c.if-not-vote_fits.true))
           (omega arith),
     )
 
 pub loop-i-preserved : goal.loop-i-preserved
 loop-i-preserved c =
     let none = c.loop-i.invariant.1 in
-    (omega arith, first_on _ _ none (rw (← c.vote_fits.ensures) c.if-not-vote_fits.false-raw))
+    (omega arith, first_on _ _ none (rw (← c.vote_fits.ensures, c.if-not-vote_fits.false)))
 
 pub returns : goal.returns
 unfolding check_votes

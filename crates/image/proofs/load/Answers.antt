@@ -16,7 +16,9 @@ ruled c = rw c.run_in-run.ensures at c.check_rules-rules.ensures
 
 pub check_rules-rules-requires : goal.check_rules-rules-requires
 unfolding run_in
-check_rules-rules-requires c = rw c.run_in-run.ensures (form_stations _ (formed (goal.at.check_rules-rules-requires c).Else-number-ne0))
+check_rules-rules-requires c =
+    let else_number_ne0 = (goal.at.check_rules-rules-requires c).Else-number-ne0 in
+    rw c.run_in-run.ensures (form_stations _ (formed else_number_ne0))
 
 pub returns-then-number-ne0 : goal.returns-then-number-ne0
 returns-then-number-ne0 c =
@@ -25,10 +27,14 @@ returns-then-number-ne0 c =
 
 pub returns-then-number-ne0-2 : goal.returns-then-number-ne0-2
 returns-then-number-ne0-2 c =
-    let no = refuses (ruled (goal.at.returns-then-number-ne0-2 c).After-check_rules-rules) c.number-2.ensures c.if-number-ne0-2.true in
-    rw (c.none-then-number-ne0-2.ensures, ruled (goal.at.returns-then-number-ne0-2 c).After-check_rules-rules) (load_broken _ (formed (goal.at.returns-then-number-ne0-2 c).Else-number-ne0) no)
+    let after_check_rules = (goal.at.returns-then-number-ne0-2 c).After-check_rules-rules in
+    let else_number_ne0 = (goal.at.returns-then-number-ne0-2 c).Else-number-ne0 in
+    let no = refuses (ruled after_check_rules) c.number-2.ensures c.if-number-ne0-2.true in
+    rw (c.none-then-number-ne0-2.ensures, ruled after_check_rules) (load_broken _ (formed else_number_ne0) no)
 
 pub returns : goal.returns
 returns c =
-    let yes = accepts (ruled (goal.at.returns c).After-check_rules-rules) c.number-2.ensures c.if-number-ne0-2.false in
-    rw (ruled (goal.at.returns c).After-check_rules-rules, yes, c.run_in-run.ensures) (load_kept _ (formed (goal.at.returns c).Else-number-ne0) yes)
+    let after_check_rules = (goal.at.returns c).After-check_rules-rules in
+    let else_number_ne0 = (goal.at.returns c).Else-number-ne0 in
+    let yes = accepts (ruled after_check_rules) c.number-2.ensures c.if-number-ne0-2.false in
+    rw (ruled after_check_rules, yes, c.run_in-run.ensures) (load_kept _ (formed else_number_ne0) yes)

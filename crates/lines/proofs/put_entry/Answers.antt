@@ -5,7 +5,10 @@ use Rattle.lines.proofs.put_entry.Goals as goal
 
 pub returns-then-there : goal.returns-then-there
 returns-then-there c =
-    record { put = put_there _ _ _ c.if-there.true c.put_byte-from.ensures c.put_number.ensures.put; upper_bound = omega arith }
+    record {
+      put = put_there _ _ _ c.if-there.true c.put_byte-from.ensures c.put_number.ensures.put;
+      upper_bound = omega arith;
+    }
 
 pub returns : goal.returns
 returns c =

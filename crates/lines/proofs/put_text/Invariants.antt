@@ -8,7 +8,10 @@ use Rattle.lines.proofs.put_text.Given as goal
 
 abbrev pub invariant-loop-i : goal.invariant-loop-i
 invariant-loop-i l =
-    (l.i ≤ length l.text) × (l.end ≡ l.at + l.i) × (length l.out ≡ length l.initial.out) × Put l.initial.out l.at (take l.i l.text) l.end l.out
+    (l.i ≤ length l.text)
+    × (l.end ≡ l.at + l.i)
+    × (length l.out ≡ length l.initial.out)
+    × Put l.initial.out l.at (take l.i l.text) l.end l.out
 
 abbrev pub decreases-loop-i : goal.decreases-loop-i
 decreases-loop-i l = length l.text - l.i

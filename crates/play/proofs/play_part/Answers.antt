@@ -8,7 +8,7 @@ pub round_of_a-requires : goal.round_of_a-requires
 round_of_a-requires c =
     record {
       keeps = c.requires;
-      next = under_a _ (fails c.is_u.ensures c.if-not-is_u.true-raw);
+      next = under_a _ (fails c.is_u.ensures c.if-not-is_u.true);
     }
 
 pub vote_round-requires : goal.vote_round-requires
@@ -23,6 +23,6 @@ value_round-requires c =
     record {
       keeps = c.requires;
       next =
-          values_first _ (passes c.is_u.ensures c.if-not-is_u.false-raw)
+          values_first _ (passes c.is_u.ensures c.if-not-is_u.false)
           (sym c.may_vote.ensures ∙ c.if-may_vote.false);
     }

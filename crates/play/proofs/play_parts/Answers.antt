@@ -42,8 +42,9 @@ slice_bounds-play_part-end c = omega (arith, c.least.ensures, c.loop-at.invarian
 
 pub returns-then-number-ne0 : goal.returns-then-number-ne0
 returns-then-number-ne0 c =
+    let after_play_part = (goal.at.returns-then-number-ne0 c).After-play_part-part in
     c.after-played.ensures
-    ∙ stops (part (goal.at.returns-then-number-ne0 c).After-play_part-part) c.number.ensures c.if-number-ne0.true
+    ∙ stops (part after_play_part) c.number.ensures c.if-number-ne0.true
 
 pub loop-at-smaller : goal.loop-at-smaller
 loop-at-smaller c =
@@ -52,8 +53,9 @@ loop-at-smaller c =
 
 pub loop-at-preserved : goal.loop-at-preserved
 loop-at-preserved c =
+    let after_play_part = (goal.at.loop-at-preserved c).After-play_part-part in
     rw c.after-played.ensures
-    (goes_on (part (goal.at.loop-at-preserved c).After-play_part-part) c.number.ensures c.if-number-ne0.false)
+    (goes_on (part after_play_part) c.number.ensures c.if-number-ne0.false)
 
 pub returns : goal.returns
 returns c = ends _ _ _ _ c.loop-at.invariant (omega arith)

@@ -25,8 +25,10 @@ stepping c =
 
 pub returns-then-number-ne0 : goal.returns-then-number-ne0
 returns-then-number-ne0 c =
-    c.ended-then-number-ne0.ensures ∙ refused_alone (stepping (goal.at.returns-then-number-ne0 c).After-step-stepped) c.number.ensures c.if-number-ne0.true
+    let after_step = (goal.at.returns-then-number-ne0 c).After-step-stepped in
+    c.ended-then-number-ne0.ensures ∙ refused_alone (stepping after_step) c.number.ensures c.if-number-ne0.true
 
 pub returns : goal.returns
 returns c =
-    accepted_alone (stepping (goal.at.returns c).After-step-stepped) c.number.ensures c.if-number-ne0.false
+    let after_step = (goal.at.returns c).After-step-stepped in
+    accepted_alone (stepping after_step) c.number.ensures c.if-number-ne0.false

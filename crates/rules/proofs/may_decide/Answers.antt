@@ -11,7 +11,7 @@ returns-then-not-is_u c =
       le-leb _ _ c.if-round-ge1.true,
       le-leb _ _ c.if-round-clock.true,
       ← c.is_u.ensures,
-      c.if-not-is_u.true-raw,
+      c.if-not-is_u.true,
     )
 
 pub returns-else-not-is_u : goal.returns-else-not-is_u
@@ -21,7 +21,7 @@ returns-else-not-is_u c =
       le-leb _ _ c.if-round-ge1.true,
       le-leb _ _ c.if-round-clock.true,
       ← c.is_u.ensures,
-      c.if-not-is_u.false-raw,
+      c.if-not-is_u.false,
     )
 
 pub returns-else-round-clock : goal.returns-else-round-clock

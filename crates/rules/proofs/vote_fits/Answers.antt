@@ -4,8 +4,8 @@ use Rattle.rules.proofs.vote_fits.Goals as goal
 
 pub returns-then-not-voted : goal.returns-then-not-voted
 unfolding vote_fits
-returns-then-not-voted c = rw c.if-not-voted.true-raw
+returns-then-not-voted c = rw c.if-not-voted.true
 
 pub returns-else-not-voted : goal.returns-else-not-voted
 unfolding vote_fits
-returns-else-not-voted c = rw c.if-not-voted.false-raw c.may_vote.ensures
+returns-else-not-voted c = rw c.if-not-voted.false c.may_vote.ensures

@@ -15,24 +15,29 @@ replied : (c : After-open-opened) → c.open-opened.result.reply ≡ check_openi
 replied c = ap (λ (o : Opened). o.reply) c.open-opened.ensures ∙ opened_reply _
 
 good : (c : Else-number-ne0) → check_opening c.args.opening.now ≡ Accepted
-good c = accepts (ap (λ (o : Opened). o.reply) c.open-opened.ensures ∙ opened_reply _) c.number.ensures c.if-number-ne0.false
+good c =
+    accepts (ap (λ (o : Opened). o.reply) c.open-opened.ensures ∙ opened_reply _) c.number.ensures c.if-number-ne0.false
 
 pub returns-then-number-ne0 : goal.returns-then-number-ne0
 returns-then-number-ne0 c =
-    let told = open_refused _ _ (refuses (replied (goal.at.returns-then-number-ne0 c).After-open-opened) c.number.ensures c.if-number-ne0.true)
-    in
-    record { reply = c.answer.ensures ∙ ap answer_of (replied (goal.at.returns-then-number-ne0 c).After-open-opened ∙ told.0); bytes = told.1 }
+    let after_open = (goal.at.returns-then-number-ne0 c).After-open-opened in
+    let told = open_refused _ _ (refuses (replied after_open) c.number.ensures c.if-number-ne0.true) in
+    record { reply = c.answer.ensures ∙ ap answer_of (replied after_open ∙ told.0); bytes = told.1 }
 
 pub returns-then-image-image_length : goal.returns-then-image-image_length
 returns-then-image-image_length c =
-    let told = open_misfit _ _ (good (goal.at.returns-then-image-image_length c).Else-number-ne0) (rw (c.image_length.ensures, c.open-opened.ensures) at
+    let else_number_ne0 = (goal.at.returns-then-image-image_length c).Else-number-ne0 in
+    let told = open_misfit _ _ (good else_number_ne0) (rw (c.image_length.ensures, c.open-opened.ensures) at
     c.if-image-image_length.true) in
     record { reply = c.answer-then-image-image_length.ensures ∙ ap answer_of told.0; bytes = told.1 }
 
 pub returns : goal.returns
 returns c =
-    let told = open_fit _ _ (good (goal.at.returns c).Else-number-ne0) (rw (c.image_length.ensures, c.open-opened.ensures) at c.if-image-image_length.false) in record {
-      reply = c.answer-2.ensures ∙ ap answer_of (replied (goal.at.returns c).After-open-opened ∙ good (goal.at.returns c).Else-number-ne0
-          ∙ told.0);
+    let else_number_ne0 = (goal.at.returns c).Else-number-ne0 in
+    let after_open = (goal.at.returns c).After-open-opened in
+    let told = open_fit _ _ (good else_number_ne0) (rw (c.image_length.ensures, c.open-opened.ensures) at
+    c.if-image-image_length.false) in
+    record {
+      reply = c.answer-2.ensures ∙ ap answer_of (replied after_open ∙ good else_number_ne0 ∙ told.0);
       bytes = rw (c.put_image.ensures, c.open-opened.ensures) told.1;
     }

@@ -20,38 +20,39 @@ replied : (c : After-load-loaded) → c.load-loaded.result.reply
 replied c = ap (λ (o : Opened). o.reply) c.load-loaded.ensures ∙ loaded_reply _
 
 good : (c : Else-number-ne0) → check_image c.args.image.now ≡ Accepted
-good c = accepts (ap (λ (o : Opened). o.reply) c.load-loaded.ensures ∙ loaded_reply _) c.number.ensures c.if-number-ne0.false
+good c =
+    accepts (ap (λ (o : Opened). o.reply) c.load-loaded.ensures ∙ loaded_reply _) c.number.ensures c.if-number-ne0.false
 
 -- the round
 stepped : (c : After-step-stepped)
-    → c.step-stepped.result
-    ≡ step_of (loaded_run c.args.image.now)
-    c.args.round.now
+    → c.step-stepped.result ≡ step_of (loaded_run c.args.image.now) c.args.round.now
 stepped c = rw c.load-loaded.ensures at c.step-stepped.ensures
 
 judged : (c : After-step-stepped)
-    → c.step-stepped.result.reply
-    ≡ check_step (loaded_run c.args.image.now)
-    c.args.round.now
+    → c.step-stepped.result.reply ≡ check_step (loaded_run c.args.image.now) c.args.round.now
 judged c = ap (λ (s : Stepped). s.reply) (stepped c) ∙ reply_is _ _
 
 pub returns-then-number-ne0 : goal.returns-then-number-ne0
 returns-then-number-ne0 c =
-    let told = image_refused _ _ (refuses (replied (goal.at.returns-then-number-ne0 c).After-load-loaded) c.number.ensures c.if-number-ne0.true)
-    in
-    record { reply = c.answer.ensures ∙ ap answer_of (replied (goal.at.returns-then-number-ne0 c).After-load-loaded ∙ told.0); bytes = told.1 }
+    let after_load = (goal.at.returns-then-number-ne0 c).After-load-loaded in
+    let told = image_refused _ _ (refuses (replied after_load) c.number.ensures c.if-number-ne0.true) in
+    record { reply = c.answer.ensures ∙ ap answer_of (replied after_load ∙ told.0); bytes = told.1 }
 
 pub returns-then-number-ne0-2 : goal.returns-then-number-ne0-2
 returns-then-number-ne0-2 c =
-    let told = round_refused _ _ (good (goal.at.returns-then-number-ne0-2 c).Else-number-ne0)
-    (refuses (judged (goal.at.returns-then-number-ne0-2 c).After-step-stepped) c.number-2.ensures c.if-number-ne0-2.true) in
-    record { reply = c.answer-then-number-ne0-2.ensures ∙ ap answer_of (judged (goal.at.returns-then-number-ne0-2 c).After-step-stepped ∙ told.0); bytes = told.1 }
+    let else_number_ne0 = (goal.at.returns-then-number-ne0-2 c).Else-number-ne0 in
+    let after_step = (goal.at.returns-then-number-ne0-2 c).After-step-stepped in
+    let told = round_refused _ _ (good else_number_ne0)
+    (refuses (judged after_step) c.number-2.ensures c.if-number-ne0-2.true) in
+    record { reply = c.answer-then-number-ne0-2.ensures ∙ ap answer_of (judged after_step ∙ told.0); bytes = told.1 }
 
 pub returns : goal.returns
 returns c =
-    let yes = accepts (judged (goal.at.returns c).After-step-stepped) c.number-2.ensures c.if-number-ne0-2.false in
-    let told = round_taken _ _ (good (goal.at.returns c).Else-number-ne0) yes in record {
-      reply = c.answer-2.ensures ∙ ap answer_of (judged (goal.at.returns c).After-step-stepped ∙ yes ∙ told.0);
-      bytes = rw (c.put_image.ensures, stepped (goal.at.returns c).After-step-stepped)
-          told.1;
+    let after_step = (goal.at.returns c).After-step-stepped in
+    let else_number_ne0 = (goal.at.returns c).Else-number-ne0 in
+    let yes = accepts (judged after_step) c.number-2.ensures c.if-number-ne0-2.false in
+    let told = round_taken _ _ (good else_number_ne0) yes in
+    record {
+      reply = c.answer-2.ensures ∙ ap answer_of (judged after_step ∙ yes ∙ told.0);
+      bytes = rw (c.put_image.ensures, stepped after_step) told.1;
     }

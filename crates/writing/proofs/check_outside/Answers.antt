@@ -14,13 +14,13 @@ pub returns-then-not-may_hold : goal.returns-then-not-may_hold
 returns-then-not-may_hold c =
     let n = c.args.n in
     let m = c.args.matrix in
-    let met = place_met n m c.loop-k.k (fails c.may_hold.ensures c.if-not-may_hold.true-raw) in
+    let met = place_met n m c.loop-k.k (fails c.may_hold.ensures c.if-not-may_hold.true) in
     rw c.records.ensures.0 (turn_returns (place_said n m) (stations * stations) _ c.loop-k.invariant.1 (sym met)
     (ap is_accepted met) (omega arith) ∙ outside_asked n m)
 
 pub loop-k-preserved : goal.loop-k-preserved
 loop-k-preserved c =
-    (omega arith, turn_on _ _ c.loop-k.invariant.1 (rw (passes c.may_hold.ensures c.if-not-may_hold.false-raw)))
+    (omega arith, turn_on _ _ c.loop-k.invariant.1 (rw (passes c.may_hold.ensures c.if-not-may_hold.false)))
 
 pub returns : goal.returns
 returns c =

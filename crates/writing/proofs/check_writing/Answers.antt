@@ -12,11 +12,16 @@ use Rattle.round.proofs.Readings.{few_stations}
 use Rattle.writing.proofs.Writings.{writing_unsound, writing_query, writing_outside, writing_room}
 use Rattle.writing.proofs.Writings.{writing_accepted}
 use Rattle.writing.proofs.check_writing.Goals as goal
-use Rattle.writing.proofs.check_writing.Goals.{After-check_outside-outside, Else-not-sound, Else-number-ne0, Else-number-ne0-2}
+use Rattle.writing.proofs.check_writing.Goals.{
+  After-check_outside-outside,
+  Else-not-sound,
+  Else-number-ne0,
+  Else-number-ne0-2,
+}
 
 -- what each check that was passed tells
 good : (c : Else-not-sound) → sound c.args.run ≡ true
-good c = passes c.sound.ensures c.if-not-sound.false-raw
+good c = passes c.sound.ensures c.if-not-sound.false
 
 -- what the two checks of the matrix answered
 module _ (c : After-check_outside-outside) where
@@ -43,27 +48,39 @@ within c =
     accepts c.check_outside-outside.ensures c.number-2.ensures c.if-number-ne0-2.false
 
 pub returns-then-not-sound : goal.returns-then-not-sound
-returns-then-not-sound c = writing_unsound _ _ _ (fails c.sound.ensures c.if-not-sound.true-raw)
+returns-then-not-sound c = writing_unsound _ _ _ (fails c.sound.ensures c.if-not-sound.true)
 
 pub check_queries-queries-requires : goal.check_queries-queries-requires
-check_queries-queries-requires c = few_stations _ (good (goal.at.check_queries-queries-requires c).Else-not-sound)
+check_queries-queries-requires c =
+    let else_not_sound = (goal.at.check_queries-queries-requires c).Else-not-sound in
+    few_stations _ (good else_not_sound)
 
 pub returns-then-number-ne0 : goal.returns-then-number-ne0
 returns-then-number-ne0 c =
-    let e = queried (goal.at.returns-then-number-ne0 c).After-check_outside-outside in
-    writing_query _ _ _ (passed (goal.at.returns-then-number-ne0 c).After-check_outside-outside) e (refuses e c.number.ensures c.if-number-ne0.true)
+    let after_check_outside = (goal.at.returns-then-number-ne0 c).After-check_outside-outside in
+    let e = queried after_check_outside in
+    writing_query _ _ _ (passed after_check_outside) e (refuses e c.number.ensures c.if-number-ne0.true)
 
 pub returns-then-number-ne0-2 : goal.returns-then-number-ne0-2
 returns-then-number-ne0-2 c =
+    let after_check_outside = (goal.at.returns-then-number-ne0-2 c).After-check_outside-outside in
+    let else_number_ne0 = (goal.at.returns-then-number-ne0-2 c).Else-number-ne0 in
     let e = c.check_outside-outside.ensures in
-    writing_outside _ _ _ (passed (goal.at.returns-then-number-ne0-2 c).After-check_outside-outside) (asked (goal.at.returns-then-number-ne0-2 c).Else-number-ne0) e (refuses e c.number-2.ensures c.if-number-ne0-2.true)
+    writing_outside _ _ _ (passed after_check_outside) (asked else_number_ne0) e
+    (refuses e c.number-2.ensures c.if-number-ne0-2.true)
 
 pub returns-then-room-round_length : goal.returns-then-room-round_length
 returns-then-room-round_length c =
-    writing_room _ _ _ (passed (goal.at.returns-then-room-round_length c).After-check_outside-outside) (asked (goal.at.returns-then-room-round_length c).Else-number-ne0) (within (goal.at.returns-then-room-round_length c).Else-number-ne0-2)
+    let after_check_outside = (goal.at.returns-then-room-round_length c).After-check_outside-outside in
+    let else_number_ne0 = (goal.at.returns-then-room-round_length c).Else-number-ne0 in
+    let else_number_ne0_2 = (goal.at.returns-then-room-round_length c).Else-number-ne0-2 in
+    writing_room _ _ _ (passed after_check_outside) (asked else_number_ne0) (within else_number_ne0_2)
     (λ e. c.if-room-round_length.true (e ∙ sym c.round_length.ensures))
 
 pub returns : goal.returns
 returns c =
-    writing_accepted _ _ _ (passed (goal.at.returns c).After-check_outside-outside) (asked (goal.at.returns c).Else-number-ne0) (within (goal.at.returns c).Else-number-ne0-2)
+    let after_check_outside = (goal.at.returns c).After-check_outside-outside in
+    let else_number_ne0 = (goal.at.returns c).Else-number-ne0 in
+    let else_number_ne0_2 = (goal.at.returns c).Else-number-ne0-2 in
+    writing_accepted _ _ _ (passed after_check_outside) (asked else_number_ne0) (within else_number_ne0_2)
     (c.if-room-round_length.false ∙ c.round_length.ensures)

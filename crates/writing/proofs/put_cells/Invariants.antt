@@ -10,7 +10,9 @@ use Rattle.writing.proofs.put_cells.Given as goal
 
 abbrev pub invariant-loop-k : goal.invariant-loop-k
 invariant-loop-k l =
-    (l.k ≤ l.all) × (l.out ≡ written l.k (record_number l.n l.matrix) ++ drop (record_bytes * l.k) l.initial.out) × (length l.out ≡ length l.initial.out)
+    (l.k ≤ l.all)
+    × (l.out ≡ written l.k (record_number l.n l.matrix) ++ drop (record_bytes * l.k) l.initial.out)
+    × (length l.out ≡ length l.initial.out)
 
 abbrev pub decreases-loop-k : goal.decreases-loop-k
 decreases-loop-k l = l.all - l.k

@@ -53,16 +53,21 @@ module _ (c : After-senders-set) where
       c.value_of-v.ensures set_is
 
 pub overflow_sub-left : goal.overflow_sub-left
-overflow_sub-left c = (some-set (goal.at.overflow_sub-left c).After-senders-set).1
+overflow_sub-left c =
+    let after_senders = (goal.at.overflow_sub-left c).After-senders-set in
+    (some-set after_senders).1
 
 pub loop-left-smaller : goal.loop-left-smaller
-loop-left-smaller c = omega (arith, some-set (goal.at.loop-left-smaller c).After-senders-set)
+loop-left-smaller c =
+    let after_senders = (goal.at.loop-left-smaller c).After-senders-set in
+    omega (arith, some-set after_senders)
 
 pub loop-left-preserved : goal.loop-left-preserved
 loop-left-preserved c =
+    let after_senders = (goal.at.loop-left-preserved c).After-senders-set in
     rw (c.with_least-t.ensures, c.with_most.ensures)
     (turns c.loop-left.invariant (omega arith) c.loop-left-test.true _ _
-    c.value_of-v.ensures (set_is (goal.at.loop-left-preserved c).After-senders-set) (positive _))
+    c.value_of-v.ensures (set_is after_senders) (positive _))
 
 pub returns : goal.returns
 returns c = ends c.loop-left.invariant c.loop-left-test.false
@@ -72,7 +77,9 @@ low : (c : In-loop-left) → count_trailing_zeros stations c.loop-left.left < st
 low c = omega (arith, below c)
 
 pub senders-set-requires : goal.senders-set-requires
-senders-set-requires c = below (goal.at.senders-set-requires c).In-loop-left
+senders-set-requires c =
+    let in_loop_left = (goal.at.senders-set-requires c).In-loop-left in
+    below in_loop_left
 
 pub overflow_cast-q : goal.overflow_cast-q
 overflow_cast-q c = let l = low c in search rules

@@ -10,7 +10,8 @@ use Rattle.hearing.proofs.heard.sets_of.Given as goal
 abbrev pub invariant-loop-q : goal.invariant-loop-q
 invariant-loop-q l =
     (l.q ≤ l.initial.q) × (l.ho ≡ mask_from l.q l.initial.q (HO (row_of l.cells)))
-    × (l.sho ≡ mask_from l.q l.initial.q (SHO (row_of l.cells) (messages_of (record { given = l.given; values = l.values }))))
+    × (l.sho ≡ mask_from l.q l.initial.q
+    (SHO (row_of l.cells) (messages_of (record { given = l.given; values = l.values }))))
 
 abbrev pub decreases-loop-q : goal.decreases-loop-q
 decreases-loop-q l = l.q

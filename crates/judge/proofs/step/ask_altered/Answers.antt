@@ -15,14 +15,14 @@ returns-then-not-tolerated c =
     let args = c.args in
     asked_refused (few_at args.setup args.ho args.sho) Altered (λ i. refl) args.setup.n c.loop-p.p
     c.loop-p.invariant.1
-    (fails (rw c.altered.ensures at c.tolerated.ensures) c.if-not-tolerated.true-raw) (omega arith)
+    (fails (rw c.altered.ensures at c.tolerated.ensures) c.if-not-tolerated.true) (omega arith)
 
 pub loop-p-preserved : goal.loop-p-preserved
 loop-p-preserved c =
     let args = c.args in (
       omega arith,
       asked_on (few_at args.setup args.ho args.sho) Altered (λ i. refl) c.loop-p.p c.loop-p.invariant.1
-          (passes (rw c.altered.ensures at c.tolerated.ensures) c.if-not-tolerated.false-raw),
+          (passes (rw c.altered.ensures at c.tolerated.ensures) c.if-not-tolerated.false),
     )
 
 pub returns : goal.returns

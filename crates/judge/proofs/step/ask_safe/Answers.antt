@@ -15,14 +15,14 @@ returns-then-not-passes_bound c =
     let args = c.args in
     asked_refused (enough_at args.setup args.sho) Unsafe (λ i. refl) args.setup.n c.loop-p.p
     c.loop-p.invariant.1
-    (fails c.passes_bound.ensures c.if-not-passes_bound.true-raw) (omega arith)
+    (fails c.passes_bound.ensures c.if-not-passes_bound.true) (omega arith)
 
 pub loop-p-preserved : goal.loop-p-preserved
 loop-p-preserved c =
     let args = c.args in (
       omega arith,
       asked_on (enough_at args.setup args.sho) Unsafe (λ i. refl) c.loop-p.p c.loop-p.invariant.1
-          (passes c.passes_bound.ensures c.if-not-passes_bound.false-raw),
+          (passes c.passes_bound.ensures c.if-not-passes_bound.false),
     )
 
 pub returns : goal.returns

@@ -15,4 +15,8 @@ returns-then-number-ne0 c =
 pub returns : goal.returns
 returns c =
     let asked = c.check_write-checked.ensures in
-    let yes = accepts asked c.number.ensures c.if-number-ne0.false in record { reply = asked; bytes = rw (c.put_block.ensures, c.put_head.ensures) (wrote_opening _ _ _ (replicate stations false) _ yes) }
+    let yes = accepts asked c.number.ensures c.if-number-ne0.false in
+    record {
+      reply = asked;
+      bytes = rw (c.put_block.ensures, c.put_head.ensures) (wrote_opening _ _ _ (replicate stations false) _ yes);
+    }

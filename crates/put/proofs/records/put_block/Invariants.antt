@@ -8,7 +8,9 @@ use Rattle.put.proofs.records.put_block.Given as goal
 
 abbrev pub invariant-loop-i : goal.invariant-loop-i
 invariant-loop-i l =
-    (l.i ≤ l.n) × (l.bytes ≡ put_block l.initial.bytes l.start l.i (block_record l.shape l.flags l.numbers)) × (length l.bytes ≡ length l.initial.bytes)
+    (l.i ≤ l.n)
+    × (l.bytes ≡ put_block l.initial.bytes l.start l.i (block_record l.shape l.flags l.numbers))
+    × (length l.bytes ≡ length l.initial.bytes)
 
 abbrev pub decreases-loop-i : goal.decreases-loop-i
 decreases-loop-i l = l.n - l.i

@@ -54,7 +54,11 @@ pub overflow_add-place : goal.overflow_add-place
 overflow_add-place c = omega (arith, placed c)
 
 pub offset_bounds-slots-place : goal.offset_bounds-slots-place
-offset_bounds-slots-place c = let l = placed (goal.at.offset_bounds-slots-place c).In-loop-k in search rules
+offset_bounds-slots-place c =
+    let in_loop_k = (goal.at.offset_bounds-slots-place c).In-loop-k in
+    let l = placed in_loop_k in search rules
 
 pub bounds-slots-place : goal.bounds-slots-place
-bounds-slots-place c = placed (goal.at.bounds-slots-place c).In-loop-k
+bounds-slots-place c =
+    let in_loop_k = (goal.at.bounds-slots-place c).In-loop-k in
+    placed in_loop_k

@@ -13,7 +13,9 @@ use Rattle.round.proofs.read.read_row.Given as goal
 
 abbrev pub invariant-loop-q : goal.invariant-loop-q
 invariant-loop-q l =
-    (l.q ≤ l.n) × (in_turn l.q (said l.voting l.n l.p l.row) ≡ Accepted) × (l.cells ≡ filled stations l.q (slot_in l.row) empty)
+    (l.q ≤ l.n)
+    × (in_turn l.q (said l.voting l.n l.p l.row) ≡ Accepted)
+    × (l.cells ≡ filled stations l.q (slot_in l.row) empty)
 
 abbrev pub decreases-loop-q : goal.decreases-loop-q
 decreases-loop-q l = l.n - l.q

@@ -12,13 +12,14 @@ returns-then-not-fits c =
     c.loop-i.invariant.1 (rw (
       ← c.record_at-r.ensures,
       ← c.fits.ensures,
-    ) c.if-not-fits.true-raw) (omega arith))
+      c.if-not-fits.true,
+    )) (omega arith))
 
 pub loop-i-preserved : goal.loop-i-preserved
 loop-i-preserved c = (
   omega arith,
   first_on _ _ c.loop-i.invariant.1
-      (rw (← c.record_at-r.ensures, ← c.fits.ensures) c.if-not-fits.false-raw),
+      (rw (← c.record_at-r.ensures, ← c.fits.ensures, c.if-not-fits.false)),
 )
 
 pub returns : goal.returns

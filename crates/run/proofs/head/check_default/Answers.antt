@@ -18,7 +18,11 @@ asked : (c : After-is_default) → c.is_default.result
 asked c = rw (c.setup_in-s.ensures, c.record_at-r.ensures) at c.is_default.ensures
 
 pub returns-then-not-is_default : goal.returns-then-not-is_default
-returns-then-not-is_default c = rw (check_default_is, fails (asked (goal.at.returns-then-not-is_default c).After-is_default) c.if-not-is_default.true-raw)
+returns-then-not-is_default c =
+    let after_is_default = (goal.at.returns-then-not-is_default c).After-is_default in
+    rw (check_default_is, fails (asked after_is_default) c.if-not-is_default.true)
 
 pub returns : goal.returns
-returns c = rw (check_default_is, passes (asked (goal.at.returns c).After-is_default) c.if-not-is_default.false-raw)
+returns c =
+    let after_is_default = (goal.at.returns c).After-is_default in
+    rw (check_default_is, passes (asked after_is_default) c.if-not-is_default.false)

@@ -13,7 +13,7 @@ returns-then-not-is_setup c =
       check_head_is,
       le-leb _ _ c.if-bytes-lt-RECORD.false,
       ← c.record_at-r.ensures,
-      fails c.is_setup.ensures c.if-not-is_setup.true-raw,
+      fails c.is_setup.ensures c.if-not-is_setup.true,
     )
 
 pub returns : goal.returns
@@ -22,7 +22,7 @@ returns c =
       check_head_is,
       le-leb _ _ c.if-bytes-lt-RECORD.false,
       ← c.record_at-r.ensures,
-      passes c.is_setup.ensures c.if-not-is_setup.false-raw,
+      passes c.is_setup.ensures c.if-not-is_setup.false,
       ← c.read_setup.ensures,
     )
     c.check_setup.ensures

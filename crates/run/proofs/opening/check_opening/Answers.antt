@@ -23,14 +23,19 @@ returns-then-number-ne0 c =
 
 pub returns-then-bytes-opening_length : goal.returns-then-bytes-opening_length
 returns-then-bytes-opening_length c =
-    rw (check_opening_is, headed (goal.at.returns-then-bytes-opening_length c).Else-number-ne0, ne_eqb _ _ (rw (sized (goal.at.returns-then-bytes-opening_length c).After-opening_length) at c.if-bytes-opening_length.true))
+    let else_number_ne0 = (goal.at.returns-then-bytes-opening_length c).Else-number-ne0 in
+    let after_opening_length = (goal.at.returns-then-bytes-opening_length c).After-opening_length in
+    let misfit = ne_eqb _ _ (rw (sized after_opening_length) at c.if-bytes-opening_length.true) in
+    rw (check_opening_is, headed else_number_ne0, misfit)
 
 pub returns-then-number-ne0-2 : goal.returns-then-number-ne0-2
 returns-then-number-ne0-2 c =
+    let else_number_ne0 = (goal.at.returns-then-number-ne0-2 c).Else-number-ne0 in
+    let after_opening_length = (goal.at.returns-then-number-ne0-2 c).After-opening_length in
     rw (
       check_opening_is,
-      headed (goal.at.returns-then-number-ne0-2 c).Else-number-ne0,
-      eq-eqb _ _ (rw (sized (goal.at.returns-then-number-ne0-2 c).After-opening_length) at
+      headed else_number_ne0,
+      eq-eqb _ _ (rw (sized after_opening_length) at
           c.if-bytes-opening_length.false),
       refuses c.check_default-default.ensures c.number-2.ensures c.if-number-ne0-2.true,
     )
@@ -38,10 +43,12 @@ returns-then-number-ne0-2 c =
 
 pub returns : goal.returns
 returns c =
+    let else_number_ne0 = (goal.at.returns c).Else-number-ne0 in
+    let after_opening_length = (goal.at.returns c).After-opening_length in
     rw (
       check_opening_is,
-      headed (goal.at.returns c).Else-number-ne0,
-      eq-eqb _ _ (rw (sized (goal.at.returns c).After-opening_length) at
+      headed else_number_ne0,
+      eq-eqb _ _ (rw (sized after_opening_length) at
           c.if-bytes-opening_length.false),
       accepts c.check_default-default.ensures c.number-2.ensures
           c.if-number-ne0-2.false,
