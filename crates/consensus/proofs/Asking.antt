@@ -2,11 +2,11 @@
 -- does not, is so of the reply of them all.
 use mathlib.Core.Path.{◌≡◌, refl, ap, sym, ◌∙◌, subst}
 use mathlib.Core.Bool.{Bool, true, false, true≢false}
-use mathlib.Core.Option.{Option, none, some}
+use Rattle.std.specs.Prelude.{Option, None, Some}
 use Prim.Native.Nat.{ℕ, zero, suc, ◌<◌}
 use native.Mathlib.Omega.{arith}
-use Rattle.run.specs.declared.Reply.{Reply}
-use Rattle.run.specs.declared.Reply.TheVariants.{Accepted}
+use Rattle.run.specs.Reply.{Reply}
+use Rattle.run.specs.Reply.{Accepted}
 use Rattle.run.specs.Reply.{is_accepted, ◌then◌, or_refuse, refuse_at}
 use Rattle.run.specs.First.{first}
 use Rattle.run.proofs.First.{first_none, first_some}
@@ -99,8 +99,8 @@ module _ (P : Reply → Type 0) where
   search_by n f r stop on = go (first n f) refl
     where
       go : (o : Option ℕ) → first n f ≡ o → P (refuse_at o r)
-      go none e = on ((first_none f n).0 e)
-      go (some i) e = let (l, here, before) = (first_some f n i).0 e in stop i l here before
+      go None e = on ((first_none f n).0 e)
+      go (Some i) e = let (l, here, before) = (first_some f n i).0 e in stop i l here before
 
   pub search_then : (n : ℕ) (f : ℕ → Bool) (r : ℕ → Reply) (s : Reply) → ((i : ℕ) → is_accepted (r i) ≡ false)
       → ((i : ℕ) → i < n → f i ≡ true → ((j : ℕ) → j < i → f j ≡ false) → P (r i))
@@ -108,8 +108,8 @@ module _ (P : Reply → Type 0) where
   search_then n f r s refuses stop on = go (first n f) refl
     where
       go : (o : Option ℕ) → first n f ≡ o → P (refuse_at o r then s)
-      go none e = on ((first_none f n).0 e)
-      go (some i) e =
+      go None e = on ((first_none f n).0 e)
+      go (Some i) e =
           let (l, here, before) = (first_some f n i).0 e in
           subst P (sym (then_stop (r i) s (refuses i))) (stop i l here before)
 

@@ -6,7 +6,7 @@ use mathlib.Core.List.{List}
 use Prim.Native.Nat.{ℕ}
 use lib.ListN.{length, replicate}
 use Rattle.run.specs.declared.Run.{Run}
-use Rattle.run.specs.declared.Reply.{Reply}
+use Rattle.run.specs.Reply.{Reply}
 use Rattle.run.specs.declared.Opened.{Opened}
 use Rattle.run.specs.Opening.{check_opening, unopened, read_opening}
 use Rattle.run.specs.Reply.{is_accepted}
@@ -43,7 +43,6 @@ step_leaves run bs = go (is_accepted (check_step run bs))
     nothing r =
         record {
           same_run = refl;
-          fires = refl;
           fired = refl;
           ho = refl;
           sho = refl;

@@ -3,7 +3,7 @@
 use mathlib.Core.Path.{◌≡◌, refl, ap, sym, ◌∙◌, subst}
 use mathlib.Core.Bool.{true, false, false≢true}
 use mathlib.Core.List.{List}
-use mathlib.Core.Option.{Option, none, some}
+use Rattle.std.specs.Prelude.{Option, None, Some}
 use mathlib.Core.Logic.{◌↔◌}
 use Prim.Native.Nat.{ℕ, ◌≤◌}
 use native.Mathlib.Numerals.{add-one}
@@ -16,7 +16,7 @@ use Rattle.paper.specs.Rules as rules
 use Rattle.paper.specs.Run as paper
 use Rattle.paper.proofs.Pins.{fired_iff}
 use Rattle.run.specs.declared.Run.{Run}
-use Rattle.run.specs.declared.Reply.TheVariants.{Accepted}
+use Rattle.run.specs.Reply.{Accepted}
 use Rattle.run.specs.Keeps.{Keeps}
 use Rattle.run.specs.Machine.{Machine}
 use Rattle.run.specs.Opening.{check_opening, read_opening}
@@ -71,13 +71,13 @@ use Rattle.consensus.proofs.Outside.{
 }
 
 -- a firing, as the arrays tell it
-there_iff : (o : Option ℕ) (v : ℕ) → ((is_there o ≡ true) × (value_or_0 o ≡ v)) ↔ (o ≡ some v)
-there_iff none v = (λ h. absurd (false≢true h.0), λ e. let z : ◌≡◌ {A = ℕ} 0 1 = cc in absurd (omega arith))
-there_iff (some w) v = (λ h. ap some h.1, λ e. (refl, cc))
+there_iff : (o : Option ℕ) (v : ℕ) → ((is_there o ≡ true) × (value_or_0 o ≡ v)) ↔ (o ≡ Some v)
+there_iff None v = (λ h. absurd (false≢true h.0), λ e. let z : ◌≡◌ {A = ℕ} 0 1 = cc in absurd (omega arith))
+there_iff (Some w) v = (λ h. ap Some h.1, λ e. (refl, cc))
 
 nothing_there : (o : Option ℕ) → is_there o ≡ false → value_or_0 o ≡ 0
-nothing_there none e = refl
-nothing_there (some w) e = absurd (false≢true (sym e))
+nothing_there None e = refl
+nothing_there (Some w) e = absurd (false≢true (sym e))
 
 module _ (run : Run) (bs : List ℕ) where
   abbrev n : ℕ
@@ -151,32 +151,19 @@ module _ (run : Run) (bs : List ℕ) where
     few_enough = ok.keeps.setup.n_to
 
     -- what is in place p of the answer's arrays: below n from the row's own, and from n up a row with nothing in it
-    unfired_above : (p : ℕ) → n ≤ p → fired_at run bs p ≡ none
+    unfired_above : (p : ℕ) → n ≤ p → fired_at run bs p ≡ None
     unfolding fired_at
     unfired_above p h = lost_fired S (kind_next run) (row p) (no_receiver n bs p h)
 
-    fires_at : (p : ℕ) → get_or (step_of run bs).fires p false ≡ is_there (fired_at run bs p)
+    fired_there : (p : ℕ) → get_or (step_of run bs).fired p None ≡ fired_at run bs p
     unfolding stepped
-    fires_at p =
-        ap (λ (s : Stepped). get_or s.fires p false) answer_is
-        ∙ filled_everywhere n (λ q. is_there (fired_at run bs q)) false few_enough
-        (λ q h. ap is_there (unfired_above q h)) p
+    fired_there p =
+        ap (λ (s : Stepped). get_or s.fired p None) answer_is
+        ∙ filled_everywhere n (fired_at run bs) None few_enough unfired_above p
 
-    fired_value : (p : ℕ) → get_or (step_of run bs).fired p 0 ≡ value_or_0 (fired_at run bs p)
+    array_whole : length (step_of run bs).fired ≡ stations
     unfolding stepped
-    fired_value p =
-        ap (λ (s : Stepped). get_or s.fired p 0) answer_is
-        ∙ filled_everywhere n (λ q. value_or_0 (fired_at run bs q)) 0 few_enough
-        (λ q h. ap value_or_0 (unfired_above q h)) p
-
-    arrays_whole : (length (step_of run bs).fires ≡ stations) × (length (step_of run bs).fired ≡ stations)
-    unfolding stepped
-    arrays_whole = (
-      ap (λ (s : Stepped). length s.fires) answer_is
-          ∙ length_filled stations n (λ p. is_there (fired_at run bs p)) false,
-      ap (λ (s : Stepped). length s.fired) answer_is
-          ∙ length_filled stations n (λ p. value_or_0 (fired_at run bs p)) 0,
-    )
+    array_whole = ap (λ (s : Stepped). length s.fired) answer_is ∙ length_filled stations n (fired_at run bs) None
 
     sets_as : SetsOf run bs (step_of run bs).ho (step_of run bs).sho
     unfolding stepped
@@ -187,20 +174,16 @@ module _ (run : Run) (bs : List ℕ) where
     one_fires : setup.acceptable S ≡ true
     one_fires = ok.keeps.setup.inequalities
 
-    fired_names : (p v : ℕ) → (fired_at run bs p ≡ some v) ↔ paper.FiresAt S turn p v
+    fired_names : (p v : ℕ) → (fired_at run bs p ≡ Some v) ↔ paper.FiresAt S turn p v
     unfolding fired_at paper.FiresAt round_by_paper
     fired_names p v =
-        subst (λ (k : rules.Kind). (fired_at run bs p ≡ some v) ↔ rules.Fires S k (row p) v) (kind_is run bs)
+        subst (λ (k : rules.Kind). (fired_at run bs p ≡ Some v) ↔ rules.Fires S k (row p) v) (kind_is run bs)
         (fired_iff S one_fires (kind_next run) (row p) v)
 
-    fires_iff_rule : (p v : ℕ)
-        → ((get_or (step_of run bs).fires p false ≡ true) × (get_or (step_of run bs).fired p 0 ≡ v))
-        ↔ paper.FiresAt S turn p v
+    fires_iff_rule : (p v : ℕ) → (get_or (step_of run bs).fired p None ≡ Some v) ↔ paper.FiresAt S turn p v
     fires_iff_rule p v = (
-      λ (f, w). (fired_names p v).0 ((there_iff (fired_at run bs p) v).0 (sym (fires_at p) ∙ f, sym (fired_value p) ∙ w)),
-      λ f.
-          let told = (there_iff (fired_at run bs p) v).1 ((fired_names p v).1 f) in
-          (fires_at p ∙ told.0, fired_value p ∙ told.1),
+      λ f. (fired_names p v).0 (sym (fired_there p) ∙ f),
+      λ f. fired_there p ∙ (fired_names p v).1 f,
     )
 
     step_follows : Follows run bs (step_of run bs)
@@ -217,8 +200,7 @@ module _ (run : Run) (bs : List ℕ) where
               λ machine bytes.
               subst Machine (sym ok.next) (machine_after run bs machine ok.room bytes);
           fires = fires_iff_rule;
-          unfired = λ p e. fired_value p ∙ nothing_there (fired_at run bs p) (sym (fires_at p) ∙ e);
-          places = arrays_whole;
+          places = array_whole;
           sets = sets_as;
         }
 

@@ -17,7 +17,7 @@ use Rattle.limits.specs.declared.Setup.{Setup}
 use Rattle.run.specs.declared.Run.{Run}
 use Rattle.run.specs.declared.Station.{Station}
 use Rattle.run.specs.declared.Opened.{Opened}
-use Rattle.run.specs.declared.Reply.TheVariants.{Accepted}
+use Rattle.run.specs.Reply.{Accepted}
 use Rattle.run.specs.Keeps.{Keeps}
 use Rattle.limits.specs.Setup.{setup_of}
 use Rattle.run.specs.Run.{stations, at_start}

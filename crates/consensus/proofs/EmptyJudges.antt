@@ -11,8 +11,8 @@ use Rattle.paper.specs.Stations.{every, size}
 use Rattle.paper.specs.Heard.{AHO}
 use Rattle.paper.specs.Rules.{Station, undecided, decided, sends, kind_of, after}
 use Rattle.run.specs.declared.Run.{Run}
-use Rattle.run.specs.declared.Reply.{Reply}
-use Rattle.run.specs.declared.Reply.TheVariants.{Accepted}
+use Rattle.run.specs.Reply.{Reply}
+use Rattle.run.specs.Reply.{Accepted}
 use Rattle.run.specs.Number.{number, digits}
 use Rattle.run.specs.Record.{bytes_of, record_at, record_from}
 use Rattle.run.specs.Reply.{is_accepted}

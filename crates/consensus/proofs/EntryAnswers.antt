@@ -12,8 +12,8 @@ use lib.ListN.{length}
 use borrow.Author.Tests.{eqb-true, eqb-false, eq-eqb, ne_eqb}
 use Rattle.limits.specs.declared.Setup.{Setup}
 use Rattle.run.specs.declared.Run.{Run}
-use Rattle.run.specs.declared.Reply.{Reply}
-use Rattle.run.specs.declared.Reply.TheVariants.{Accepted, Buffer}
+use Rattle.run.specs.Reply.{Reply}
+use Rattle.run.specs.Reply.{Accepted, Buffer}
 use Rattle.run.specs.Record.{record_bytes}
 use Rattle.run.specs.Reply.{number_of, is_accepted}
 use Rattle.run.specs.Opening.{setup_in, check_opening, read_opening}

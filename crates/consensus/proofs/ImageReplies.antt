@@ -15,8 +15,8 @@ use Rattle.paper.proofs.Counting.{both}
 use Rattle.limits.specs.declared.Setup.{Setup}
 use Rattle.limits.specs.Setup.{byte_a, byte_u}
 use Rattle.run.specs.declared.Run.{Run}
-use Rattle.run.specs.declared.Reply.{Reply}
-use Rattle.run.specs.declared.Reply.TheVariants.{Accepted, Length, Malformed, Range, Inequality, Buffer, Rules}
+use Rattle.run.specs.Reply.{Reply}
+use Rattle.run.specs.Reply.{Accepted, Length, Malformed, Range, Inequality, Buffer, Rules}
 use Rattle.run.specs.declared.block.Shape.{Shape}
 use Rattle.run.specs.declared.record.Record.{Record}
 use Rattle.run.specs.Kinds as kind

@@ -1,7 +1,7 @@
 -- Demands 1 and 2 leave one answer: the relation of replies fixes the reply; a run that keeps the rules can be told from the paper's stations,
 -- since what stands beside "?" and undecided is 0; a firing is the paper's or none; and a number is told by its bits.
 use mathlib.Core.Path.{◌≡◌, refl, ap, sym, ◌∙◌}
-use mathlib.Core.Bool.{Bool, true, false, false≢true}
+use mathlib.Core.Bool.{Bool, true, false}
 use mathlib.Core.List.{List}
 use mathlib.Core.Logic.{◌↔◌}
 use Prim.Native.Nat.{ℕ, zero, suc, ◌+◌, ◌/◌, ◌%◌, ◌^◌, ◌≤◌, ◌<◌}
@@ -22,6 +22,7 @@ use Rattle.round.specs.Bridge.{paper_setup, paper_station, entries, station}
 use Rattle.judge.specs.declared.Stepped.{Stepped}
 use Rattle.consensus.specs.Judge.{Judge}
 use Rattle.consensus.specs.Round.{round_by_paper}
+use Rattle.std.specs.Prelude.{Option, None, Some}
 use Rattle.consensus.specs.Demand1.{Leaves, Demand1}
 use Rattle.consensus.specs.Demand2.{Follows, Demand2}
 use Rattle.judge.specs.Step.{check_step}
@@ -70,11 +71,11 @@ same_entries x y kx ky n same p l = go (ltb p x.setup.n) refl
         kx.above p h l ∙ sym (ky.above p (omega arith) l)
 
 -- two firings that are told by the same rule
-same_firing : (Rule : ℕ → Type 0) (f g : Bool) (v w : ℕ) → ((u : ℕ) → ((f ≡ true) × (v ≡ u)) ↔ Rule u)
-    → ((u : ℕ) → ((g ≡ true) × (w ≡ u)) ↔ Rule u) → (f ≡ false → v ≡ 0) → (g ≡ false → w ≡ 0) → (f ≡ g) × (v ≡ w)
-same_firing Rule true g v w rf rg zf zg = let told = (rg v).1 ((rf v).0 (refl, refl)) in (sym told.0, sym told.1)
-same_firing Rule false true v w rf rg zf zg = absurd (false≢true ((rf w).1 ((rg w).0 (refl, refl))).0)
-same_firing Rule false false v w rf rg zf zg = (refl, zf refl ∙ sym (zg refl))
+same_firing : (Rule : ℕ → Type 0) (f g : Option ℕ) → ((u : ℕ) → (f ≡ Some u) ↔ Rule u)
+    → ((u : ℕ) → (g ≡ Some u) ↔ Rule u) → f ≡ g
+same_firing Rule None None rf rg = refl
+same_firing Rule (Some v) g rf rg = sym ((rg v).1 ((rf v).0 refl))
+same_firing Rule None (Some w) rf rg = (rf w).1 ((rg w).0 refl)
 
 both_follow : (run : Run) (bs : List ℕ) (a b : Stepped) → a.reply ≡ b.reply → Follows run bs a → Follows run bs b
     → SameAnswer a b
@@ -91,17 +92,12 @@ both_follow run bs a b reply fa fb =
           (λ p h.
           let below : p < run.setup.n = omega (arith, h, ap (λ (s : Setup). s.n) fa.setup) in
           fa.each_station p below ∙ sym (fb.each_station p below));
-      fires = λ p. (firing p).0;
-      fired = λ p. (firing p).1;
+      fired =
+          λ p.
+          same_firing (paper.FiresAt (paper_setup run) (round_by_paper run bs) p) _ _ (fa.fires p) (fb.fires p);
       ho = λ p. bits_tell _ _ (λ q. fa.sets.heard_of p q ∙ sym (fb.sets.heard_of p q));
       sho = λ p. bits_tell _ _ (λ q. fa.sets.safely p q ∙ sym (fb.sets.safely p q));
     }
-  where
-    firing : (p : ℕ)
-        → (get_or a.fires p false ≡ get_or b.fires p false) × (get_or a.fired p 0 ≡ get_or b.fired p 0)
-    firing p =
-        same_firing (paper.FiresAt (paper_setup run) (round_by_paper run bs) p) _ _ _ _ (fa.fires p) (fb.fires p)
-        (fa.unfired p) (fb.unfired p)
 
 both_leave : (run : Run) (a b : Stepped) → a.reply ≡ b.reply → Leaves run a → Leaves run b → SameAnswer a b
 both_leave run a b reply la lb =
@@ -112,8 +108,7 @@ both_leave run a b reply la lb =
       default = ap (λ (r : Run). r.default) same;
       clock = ap (λ (r : Run). r.clock) same;
       each_station = λ p l. ap (λ (r : Run). station_at r p) same;
-      fires = λ p. ap (λ (l : List Bool). get_or l p false) (la.fires ∙ sym lb.fires);
-      fired = λ p. ap (λ (l : List ℕ). get_or l p 0) (la.fired ∙ sym lb.fired);
+      fired = λ p. ap (λ (l : List (Option ℕ)). get_or l p None) (la.fired ∙ sym lb.fired);
       ho = λ p. ap (λ (l : List ℕ). get_or l p 0) (la.ho ∙ sym lb.ho);
       sho = λ p. ap (λ (l : List ℕ). get_or l p 0) (la.sho ∙ sym lb.sho);
     }

@@ -12,8 +12,8 @@ use borrow.Author.Tests.{eqb-true, eqb-false, eq-eqb, ne_eqb, le-leb, leb-true, 
 use Rattle.paper.specs.Setup as setup
 use Rattle.limits.specs.declared.Setup.{Setup}
 use Rattle.limits.specs.Setup.{byte_a, byte_u, setup_of}
-use Rattle.run.specs.declared.Reply.{Reply}
-use Rattle.run.specs.declared.Reply.TheVariants.{Accepted, Length, Malformed, Range, Inequality, Buffer}
+use Rattle.run.specs.Reply.{Reply}
+use Rattle.run.specs.Reply.{Accepted, Length, Malformed, Range, Inequality, Buffer}
 use Rattle.run.specs.declared.block.Shape.{Shape}
 use Rattle.run.specs.declared.record.Record.{Record}
 use Rattle.run.specs.Kinds as kind

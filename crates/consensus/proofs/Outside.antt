@@ -3,7 +3,7 @@
 use mathlib.Core.Path.{◌≡◌, refl, ap, sym, ◌∙◌}
 use mathlib.Core.Bool.{Bool, true, false, ◌&&◌}
 use mathlib.Core.List.{List}
-use mathlib.Core.Option.{none}
+use Rattle.std.specs.Prelude.{None}
 use Prim.Native.Nat.{ℕ, zero, suc, ◌/◌, ◌%◌, ◌^◌, ◌≤◌, ◌<◌}
 use native.Mathlib.Nat.{lt_of_lt_of_le, zero-add}
 use native.Mathlib.Omega.{arith}
@@ -100,7 +100,7 @@ masks_everywhere n X few high right p q =
 
 -- a row in which nothing is heard: no value came, so nothing fires, whatever the station holds
 pub lost_fired : (S : setup.Setup) (k : rules.Kind) (row : heard.Row) → ((q : ℕ) → row q ≡ heard.lost)
-    → rules.fired S k row ≡ none
+    → rules.fired S k row ≡ None
 lost_fired S k row lost = no_value_no_firing S row no_value k
   where
     no_value : (w : ℕ) → ¬ Received S.n row w

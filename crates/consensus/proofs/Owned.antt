@@ -10,7 +10,7 @@ use lib.ListN.{length, get_or, length-append}
 use Rattle.paper.specs.Stations.{Stations, size}
 use Rattle.paper.specs.Heard as heard
 use Rattle.run.specs.declared.Run.{Run}
-use Rattle.run.specs.declared.Reply.TheVariants.{Accepted}
+use Rattle.run.specs.Reply.{Accepted}
 use Rattle.run.specs.Reply.{is_accepted}
 use Rattle.run.specs.Run.{stations}
 use Rattle.run.specs.Filled.{filled}

@@ -10,8 +10,8 @@ use native.Mathlib.Omega.{arith}
 use lib.ListN.{length, length-drop}
 use Rattle.limits.specs.declared.Setup.{Setup}
 use Rattle.run.specs.declared.Run.{Run}
-use Rattle.run.specs.declared.Reply.{Reply}
-use Rattle.run.specs.declared.Reply.TheVariants.{Accepted}
+use Rattle.run.specs.Reply.{Reply}
+use Rattle.run.specs.Reply.{Accepted}
 use Rattle.run.specs.Keeps.{Keeps}
 use Rattle.run.specs.Reply.{is_accepted}
 use Rattle.run.specs.Run.{sound}

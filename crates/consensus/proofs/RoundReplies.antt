@@ -19,8 +19,8 @@ use Rattle.paper.specs.Run as paper
 use Rattle.paper.proofs.Setups.{a_not_u}
 use Rattle.paper.proofs.Thresholds.{tolerated_iff}
 use Rattle.run.specs.declared.Run.{Run}
-use Rattle.run.specs.declared.Reply.{Reply}
-use Rattle.run.specs.declared.Reply.TheVariants.{
+use Rattle.run.specs.Reply.{Reply}
+use Rattle.run.specs.Reply.{
   Accepted,
   Length,
   Malformed,

@@ -10,7 +10,7 @@ use Rattle.limits.specs.declared.Setup.{Setup}
 use Rattle.run.specs.declared.Run.{Run}
 use Rattle.run.specs.declared.Station.{Station}
 use Rattle.run.specs.declared.Opened.{Opened}
-use Rattle.run.specs.declared.Reply.TheVariants.{Accepted}
+use Rattle.run.specs.Reply.{Accepted}
 use Rattle.run.specs.declared.record.Record.{Record}
 use Rattle.run.specs.Bytes.{IsBytes}
 use Rattle.run.specs.Kinds as kind
@@ -78,7 +78,6 @@ use Rattle.image.proofs.Images.{saving_accepted, saved_image, loaded_reply}
 use Rattle.image.proofs.Loaded.{spelt, spells, loaded_sound, loaded_machine}
 use Rattle.image.proofs.Saved.{save_load}
 use Rattle.round.specs.declared.Matrix.{Matrix}
-use Rattle.round.specs.declared.Slot.{Slot}
 use Rattle.round.specs.declared.Reading.{Reading}
 use Rattle.round.specs.Cells.{cell_record}
 use Rattle.round.specs.Reading.{check_reading, cells, matrix_of, cell_of, read_round}
@@ -304,7 +303,7 @@ module _ (run : Run) (bs : List ℕ) (taken : is_accepted (read_round run bs).re
         outside =
             λ p q lp lq out.
             cell_of_matrix (cells n bs) p q lp lq ∙ cell_outside n bs p q (λ x y. out (x, y));
-        places = length_tabulate {A = Slot} (stations * stations) (λ k. record { cell = cells n bs (k / stations) (k % stations) });
+        places = length_tabulate (stations * stations) (λ k. cells n bs (k / stations) (k % stations));
       })
 
 -- ---- a round that is written

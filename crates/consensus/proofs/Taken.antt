@@ -9,7 +9,7 @@ use native.Mathlib.Omega.{arith}
 use lib.ListN.{length, length-append}
 use Rattle.paper.specs.Run.{States, Turn}
 use Rattle.run.specs.declared.Run.{Run}
-use Rattle.run.specs.declared.Reply.TheVariants.{Rules}
+use Rattle.run.specs.Reply.{Rules}
 use Rattle.run.specs.Keeps.{Keeps}
 use Rattle.run.specs.Reply.{is_accepted}
 use Rattle.run.specs.Run.{sound}

@@ -8,7 +8,7 @@ use Prim.Native.Nat.{ℕ}
 use lib.ListN.{length, length-replicate}
 use Rattle.run.specs.declared.Run.{Run}
 use Rattle.run.specs.declared.Opened.{Opened}
-use Rattle.run.specs.declared.Reply.TheVariants.{Accepted}
+use Rattle.run.specs.Reply.{Accepted}
 use Rattle.run.specs.Bytes.{IsBytes}
 use Rattle.run.specs.Opening.{starts_from, setup_in, default_in, starts_in, check_opening, run_from, read_opening}
 use Rattle.run.specs.Opening.{write_opening}

@@ -22,8 +22,7 @@ use Rattle.image.specs.Image.{image}
 use Rattle.image.proofs.Images.{length_image, saving_accepted, saved_image}
 use Rattle.round.specs.declared.Cell.{Cell}
 use Rattle.round.specs.declared.Cell.TheVariants as cell
-use Rattle.round.specs.declared.Slot.{Slot}
-use Rattle.round.specs.Cells.{empty, cell_record, cell_in}
+use Rattle.round.specs.Cells.{cell_record, cell_in}
 use Rattle.round.specs.Bridge.{paper_cell, heard_in}
 use Rattle.round.proofs.Matrices.{cell_inside}
 use Rattle.round.proofs.Spelling.{cell_record_in}
@@ -103,8 +102,8 @@ nothing_there =
       clock = refl;
       station = idle_station;
       machine = idle_machine;
-      lost = λ p q. ap (λ (s : Slot). s.cell) (replicate_everywhere (stations * stations) empty (stations * p + q));
-      cells = length-replicate (stations * stations) empty;
+      lost = λ p q. replicate_everywhere (stations * stations) cell.Lost (stations * p + q);
+      cells = length-replicate (stations * stations) cell.Lost;
     }
 
 pub accepts_alone : AcceptsAlone

@@ -1,6 +1,6 @@
 -- Demand 1, as a predicate of any judge: each call is answered, whatever is handed in, with the number and place that
 -- the rules give; a refusal leaves the run as it was handed in, and every lent byte as it was.
-use Rattle.std.specs.Prelude.{◌≡◌, false, List, ℕ, length, replicate}
+use Rattle.std.specs.Prelude.{◌≡◌, false, List, ℕ, length, replicate, None}
 use Rattle.limits.specs.declared.Setup.{Setup}
 use Rattle.run.specs.declared.Run.{Run}
 use Rattle.run.specs.Reply.{is_accepted}
@@ -19,8 +19,7 @@ use Rattle.consensus.specs.EntryAnswers.{OpenAnswer, StepAnswer}
 -- what is left by a round that is refused: the run is the one handed in, nothing fires, and every set is empty
 pub record Leaves (run : Run) (s : Stepped) : Type 0 where
   pub same_run : s.run ≡ run
-  pub fires : s.fires ≡ replicate stations false
-  pub fired : s.fired ≡ replicate stations 0
+  pub fired : s.fired ≡ replicate stations None
   pub ho : s.ho ≡ replicate stations 0
   pub sho : s.sho ≡ replicate stations 0
 

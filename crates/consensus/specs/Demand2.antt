@@ -1,13 +1,13 @@
 -- Demand 2, as a predicate of any judge: which openings and rounds are accepted, what then holds, in the page's and the
 -- paper's terms, and that reading and writing undo each other.
-use Rattle.std.specs.Prelude.{◌≡◌, true, false, ◌↔◌, ℕ, suc, ◌+◌, ◌*◌, ◌/◌, ◌%◌, ◌^◌, ◌<◌, length, get_or}
+use Rattle.std.specs.Prelude.{◌≡◌, true, ◌↔◌, ℕ, suc, ◌+◌, ◌*◌, ◌/◌, ◌%◌, ◌^◌, ◌<◌, length, get_or, None, Some}
 use mathlib.Core.List.{List, ◌++◌, flatten}
 use Rattle.paper.specs.Stations.{All, one}
 use Rattle.paper.specs.Heard.{HO, SHO}
 use Rattle.paper.specs.Run as paper
 use Rattle.limits.specs.declared.Setup.{Setup}
 use Rattle.run.specs.declared.Run.{Run}
-use Rattle.run.specs.declared.Reply.TheVariants.{Accepted}
+use Rattle.run.specs.Reply.{Accepted}
 use Rattle.run.specs.Bytes.{IsBytes}
 use Rattle.run.specs.Keeps.{Keeps}
 use Rattle.run.specs.Machine.{Words, Machine}
@@ -42,13 +42,11 @@ pub record Follows (run : Run) (bs : List ℕ) (s : Stepped) : Type 0 where
   pub clock : s.run.clock ≡ suc run.clock
   pub keeps_still : Keeps s.run
   pub machine_still : Machine run → IsBytes bs → Machine s.run
-  -- the firings, at every place p: where the paper's rule fires and for what, and 0 elsewhere. From n up nothing is
-  -- heard and nothing fires
+  -- the firings, at every place p: where the paper's rule fires, and for what. From n up nothing is heard and nothing
+  -- fires
   pub fires : (p v : ℕ)
-      → ((get_or s.fires p false ≡ true) × (get_or s.fired p 0 ≡ v))
-      ↔ paper.FiresAt (paper_setup run) (round_by_paper run bs) p v
-  pub unfired : (p : ℕ) → get_or s.fires p false ≡ false → get_or s.fired p 0 ≡ 0
-  pub places : (length s.fires ≡ stations) × (length s.fired ≡ stations)
+      → (get_or s.fired p None ≡ Some v) ↔ paper.FiresAt (paper_setup run) (round_by_paper run bs) p v
+  pub places : length s.fired ≡ stations
   pub sets : SetsOf run bs s.ho s.sho
 
 pub record Demand2 (J : Judge) : Type 0 where

@@ -7,7 +7,7 @@ use Rattle.paper.specs.Rules.{decided}
 use Rattle.paper.specs.Run.{Turn, FiresAt}
 use Rattle.paper.specs.Safety.{◌among◌, Locked, FirstFiring, Agreement, Lock, Integrity, Kept, Decides}
 use Rattle.run.specs.declared.Run.{Run}
-use Rattle.run.specs.declared.Reply.TheVariants.{Accepted}
+use Rattle.run.specs.Reply.{Accepted}
 use Rattle.run.specs.Keeps.{Keeps}
 use Rattle.run.specs.Opening.{read_opening}
 use Rattle.round.specs.Bridge.{station, paper_setup}

@@ -1,7 +1,7 @@
 -- Four ways to answer without judging, as properties of any judge, and the rounds that refute them: the first two of
 -- the bench sheet's case 9. That no judge with one of them meets demand 2 is proved in proofs/EmptyJudges.antt.
 use Rattle.std.specs.Prelude.{◌≡◌, false, List, [], ◌∷◌, ℕ, ◌-◌, ◌<◌, replicate}
-use Rattle.run.specs.declared.Reply.{Reply}
+use Rattle.run.specs.Reply.{Reply}
 use Rattle.run.specs.declared.Run.{Run}
 use Rattle.run.specs.Reply.{is_accepted}
 use Rattle.run.specs.Run.{stations}

@@ -2,8 +2,8 @@
 -- each way that a call can end. Proved in proofs/EntryAnswers.antt.
 use Rattle.std.specs.Prelude.{◌≡◌, List, ℕ, ◌+◌, ◌*◌, length}
 use Rattle.run.specs.declared.Run.{Run}
-use Rattle.run.specs.declared.Reply.{Reply}
-use Rattle.run.specs.declared.Reply.TheVariants.{Accepted, Buffer}
+use Rattle.run.specs.Reply.{Reply}
+use Rattle.run.specs.Reply.{Accepted, Buffer}
 use Rattle.run.specs.Record.{record_bytes}
 use Rattle.run.specs.declared.Opened.{Opened}
 use Rattle.run.specs.Opening.{setup_in}

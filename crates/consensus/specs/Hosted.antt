@@ -1,8 +1,8 @@
 -- What a host holds: an image that `judge_open` wrote, and then any calls of `judge_step`, refused ones among them. Told
 -- by the entries' answers alone, in bytes.
 use Rattle.std.specs.Prelude.{◌≡◌, List, [], ◌∷◌, ◌++◌, ℕ, suc, length}
-use Rattle.run.specs.declared.Reply.{Reply}
-use Rattle.run.specs.declared.Reply.TheVariants.{Accepted}
+use Rattle.run.specs.Reply.{Reply}
+use Rattle.run.specs.Reply.{Accepted}
 use Rattle.run.specs.Bytes.{IsBytes}
 use Rattle.run.specs.Opening.{read_opening}
 use Rattle.image.specs.Image.{loaded}

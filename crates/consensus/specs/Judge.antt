@@ -3,7 +3,7 @@
 use Rattle.std.specs.Prelude.{List, ℕ, length}
 use Rattle.limits.specs.declared.Setup.{Setup}
 use Rattle.run.specs.declared.Run.{Run}
-use Rattle.run.specs.declared.Reply.{Reply}
+use Rattle.run.specs.Reply.{Reply}
 use Rattle.run.specs.declared.Opened.{Opened}
 use Rattle.run.specs.Opening.{read_opening, check_write, write_opening}
 use Rattle.image.specs.Image.{check_save, saved, loaded}

@@ -1,6 +1,6 @@
 -- What it is for a relation between what is handed in and a reply to settle the reply.
 use Rattle.std.specs.Prelude.{◌≡◌}
-use Rattle.run.specs.declared.Reply.{Reply}
+use Rattle.run.specs.Reply.{Reply}
 
 -- it holds of this reply, and of no other
 pub record Only (R : Reply → Type 0) (r : Reply) : Type 0 where

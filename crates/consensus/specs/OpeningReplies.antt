@@ -4,8 +4,8 @@ use Rattle.std.specs.Prelude.{◌≡◌, true, ◌⊎◌, List, ℕ, ◌+◌, �
 use Rattle.paper.specs.Setup as setup
 use Rattle.limits.specs.declared.Setup.{Setup}
 use Rattle.limits.specs.Setup.{byte_a, byte_u, setup_of}
-use Rattle.run.specs.declared.Reply.{Reply}
-use Rattle.run.specs.declared.Reply.TheVariants.{Accepted, Length, Malformed, Range, Inequality, Buffer}
+use Rattle.run.specs.Reply.{Reply}
+use Rattle.run.specs.Reply.{Accepted, Length, Malformed, Range, Inequality, Buffer}
 use Rattle.run.specs.Kinds as kind
 use Rattle.run.specs.Number.{two_bytes}
 use Rattle.run.specs.Record.{record_bytes, record_at}

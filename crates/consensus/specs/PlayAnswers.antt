@@ -2,8 +2,8 @@
 -- the number of accepted rounds, with no list of pieces and no fold. Proved in proofs/PlayAnswers.antt.
 use Rattle.std.specs.Prelude.{◌≡◌, List, [], ℕ, suc, ◌*◌, ◌<◌, length, take, drop}
 use Rattle.run.specs.declared.Run.{Run}
-use Rattle.run.specs.declared.Reply.{Reply}
-use Rattle.run.specs.declared.Reply.TheVariants.{Accepted, Rules}
+use Rattle.run.specs.Reply.{Reply}
+use Rattle.run.specs.Reply.{Accepted, Rules}
 use Rattle.run.specs.Keeps.{Keeps}
 use Rattle.run.specs.Record.{record_bytes}
 use Rattle.judge.specs.declared.Stepped.{Stepped}

@@ -6,8 +6,8 @@ use Rattle.paper.specs.Stations.{All}
 use Rattle.paper.specs.Setup as setup
 use Rattle.paper.specs.Run as paper
 use Rattle.run.specs.declared.Run.{Run}
-use Rattle.run.specs.declared.Reply.{Reply}
-use Rattle.run.specs.declared.Reply.TheVariants.{Accepted, Length, Malformed, Query, Altered, Unsafe, Full, Rules}
+use Rattle.run.specs.Reply.{Reply}
+use Rattle.run.specs.Reply.{Accepted, Length, Malformed, Query, Altered, Unsafe, Full, Rules}
 use Rattle.run.specs.Keeps.{Keeps}
 use Rattle.run.specs.Run.{most_rounds}
 use Rattle.round.specs.Bridge.{paper_setup}

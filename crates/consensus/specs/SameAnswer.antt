@@ -1,6 +1,6 @@
 -- What it is for two judges to agree. Two answers to one round say the same in the reply, in the run, and at every place
 -- of every array.
-use Rattle.std.specs.Prelude.{◌≡◌, false, List, ℕ, ◌^◌, ◌<◌, get_or}
+use Rattle.std.specs.Prelude.{◌≡◌, List, ℕ, ◌^◌, ◌<◌, get_or, None}
 use Rattle.limits.specs.declared.Setup.{Setup}
 use Rattle.run.specs.declared.Run.{Run}
 use Rattle.run.specs.Bytes.{IsBytes}
@@ -17,8 +17,7 @@ pub record SameAnswer (a b : Stepped) : Type 0 where
   pub default : a.run.default ≡ b.run.default
   pub clock : a.run.clock ≡ b.run.clock
   pub each_station : (p : ℕ) → p < stations → station_at a.run p ≡ station_at b.run p
-  pub fires : (p : ℕ) → get_or a.fires p false ≡ get_or b.fires p false
-  pub fired : (p : ℕ) → get_or a.fired p 0 ≡ get_or b.fired p 0
+  pub fired : (p : ℕ) → get_or a.fired p None ≡ get_or b.fired p None
   pub ho : (p : ℕ) → get_or a.ho p 0 ≡ get_or b.ho p 0
   pub sho : (p : ℕ) → get_or a.sho p 0 ≡ get_or b.sho p 0
 

@@ -56,4 +56,4 @@ pub record RoundOf (run : Run) (m : Matrix) (bs : List ℕ) : Type 0 where
   pub cells : (p q : ℕ) → p < run.setup.n → q < run.setup.n
       → cell_at run bs p q ≡ cell_record p q (cell_of m p q)
   pub outside : LostOutside run m
-  pub places : length m.slots ≡ stations * stations
+  pub places : length m.cells ≡ stations * stations

@@ -4,8 +4,8 @@ use Rattle.std.specs.Prelude.{◌≡◌, List, true, false, ◌↔◌, ℕ, ◌+
 use Rattle.paper.specs.Heard as heard
 use Rattle.limits.specs.Setup.{byte_a, byte_u}
 use Rattle.run.specs.declared.Run.{Run}
-use Rattle.run.specs.declared.Reply.{Reply}
-use Rattle.run.specs.declared.Reply.TheVariants as reply
+use Rattle.run.specs.Reply.{Reply}
+use Rattle.run.specs.Reply as reply
 use Rattle.run.specs.Kinds as kind
 use Rattle.run.specs.Bytes.{IsBytes}
 use Rattle.run.specs.Keeps.{Keeps}
@@ -76,7 +76,7 @@ pub record Nothing : Type 0 where
       ≡ record { estimate = 0; voted = false; vote = 0; decided = false; decision = 0; round = 0 }
   pub machine : Machine idle
   pub lost : (p q : ℕ) → cell_of all_lost p q ≡ cell.Lost
-  pub cells : length all_lost.slots ≡ stations * stations
+  pub cells : length all_lost.cells ≡ stations * stations
 
 -- what p heard of q is what their record spells, and nothing outside n by n (rules 4.1, 4.5 and 4.7)
 pub record Heard (run : Run) (bs : List ℕ) : Type 0 where

@@ -2,8 +2,8 @@
 -- it (rule 12.7). Proved in proofs/WritingReplies.antt.
 use Rattle.std.specs.Prelude.{◌≡◌, ℕ, ◌+◌, ◌*◌, ◌<◌}
 use Rattle.run.specs.declared.Run.{Run}
-use Rattle.run.specs.declared.Reply.{Reply}
-use Rattle.run.specs.declared.Reply.TheVariants.{Accepted, Malformed, Query, Buffer, Rules}
+use Rattle.run.specs.Reply.{Reply}
+use Rattle.run.specs.Reply.{Accepted, Malformed, Query, Buffer, Rules}
 use Rattle.run.specs.Keeps.{Keeps}
 use Rattle.run.specs.Record.{record_bytes}
 use Rattle.run.specs.Run.{stations}

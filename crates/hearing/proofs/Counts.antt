@@ -4,7 +4,7 @@
 use mathlib.Core.Path.{◌≡◌, refl, sym, ap, ◌∙◌, subst}
 use mathlib.Core.Bool.{Bool, true, false, not, ◌&&◌, ◌||◌, cond, false≢true, and-true, and-false}
 use mathlib.Core.List.{List}
-use mathlib.Core.Option.{Option, none, some}
+use Rattle.std.specs.Prelude.{Option, None, Some}
 use mathlib.Core.Logic.{◌≢◌}
 use Prim.Native.Nat.{ℕ, ◌+◌, ◌-◌, ◌≤◌, ◌<◌}
 use native.Mathlib.Nat.{le_refl}
@@ -23,9 +23,9 @@ use Rattle.run.specs.Run.{stations}
 use Rattle.run.specs.Filled.{filled}
 use Rattle.run.proofs.Filled.{filled_below}
 use Rattle.hearing.specs.declared.Tally.{Tally}
-use Rattle.hearing.specs.Masks.{mask}
-use Rattle.hearing.specs.Tally.{is_there, value_or_0, senders_of, tally}
-use Rattle.hearing.specs.Counting.{with_most, with_least, value_of, passes_in, among, any, code_of, from_on}
+use Rattle.hearing.specs.Masks.{mask, from}
+use Rattle.hearing.specs.Tally.{value_or_0, senders_of, tally}
+use Rattle.hearing.specs.Counting.{below, with_most, with_least, value_of, passes_in, among, any, code_of, sent_code}
 use Rattle.hearing.proofs.Masks.{mask_cong, mask_none, mask_empty, mask_pos, mask_part, mask_lowest, ones_mask}
 use Rattle.hearing.proofs.Leads.{Leads, Positive, leads_iff, leads_none, none_leads, none_passed, each}
 use Rattle.hearing.proofs.Leads.{new_leads, stays, old_leads}
@@ -35,10 +35,10 @@ pub times_ones : (n : ℕ) (row : Row) (v : ℕ) → times n row v ≡ ones (mas
 unfolding times
 times_ones n row v = sym (ones_mask n (R row v))
 
-same_tally : {x x' y y' z z' : ℕ} {b b' : Bool} → x ≡ x' → y ≡ y' → b ≡ b' → z ≡ z'
-    → ◌≡◌ {A = Tally} (record { value = x; senders = y; found = b; least = z })
-    (record { value = x'; senders = y'; found = b'; least = z' })
-same_tally p q r s = rw (p, q, r, s)
+same_tally : {x x' y y' : ℕ} {z z' : Option ℕ} → x ≡ x' → y ≡ y' → z ≡ z'
+    → ◌≡◌ {A = Tally} (record { value = x; senders = y; least = z })
+    (record { value = x'; senders = y'; least = z' })
+same_tally p q r = rw (p, q, r)
 
 -- the row before the value v was counted, and the next, with it
 module _ (n : ℕ) (enough : ℕ → Bool) (positive : Positive enough) (row next : Row) (v : ℕ)
@@ -56,16 +56,16 @@ module _ (n : ℕ) (enough : ℕ → Bool) (positive : Positive enough) (row nex
       ltb (ones (senders_of n row a)) (ones set) || eqb (ones (senders_of n row a)) (ones set) && ltb v (value_or_0 a)
 
   abbrev lower : Option ℕ → Bool
-  lower a = enough (ones set) && (not (is_there a) || ltb v (value_or_0 a))
+  lower a = enough (ones set) && below v a
 
   most_step : (a : Option ℕ) → smallest n row (most_often n row) ≡ a
-      → smallest n next (most_often n next) ≡ cond (leading a) (some v) a
+      → smallest n next (most_often n next) ≡ cond (leading a) (Some v) a
   unfolding ones
-  most_step none e =
+  most_step None e =
       rw (← times_ones n next v, lt-ltb 0 (times n next v) there)
       ((leads_iff n next v).1 (new_leads (times n row) (times n next) v new there other
       (λ w. omega (arith, leads_none n row e w)) (λ w p. omega (arith, leads_none n row e w))))
-  most_step (some u) e =
+  most_step (Some u) e =
       rw (← times_ones n next v, ← times_ones n row u)
       (go (ltb (times n row u) (times n next v)) (eqb (times n row u) (times n next v)) (ltb v u) refl refl refl)
     where
@@ -74,7 +74,7 @@ module _ (n : ℕ) (enough : ℕ → Bool) (positive : Positive enough) (row nex
 
       go : (a b c : Bool) → ltb (times n row u) (times n next v) ≡ a → eqb (times n row u) (times n next v) ≡ b
           → ltb v u ≡ c
-          → smallest n next (most_often n next) ≡ cond (a || b && c) (some v) (some u)
+          → smallest n next (most_often n next) ≡ cond (a || b && c) (Some v) (Some u)
       go true b c p q r =
           let more = ltb-true (times n row u) (times n next v) p in
           (leads_iff n next v).1
@@ -117,26 +117,26 @@ module _ (n : ℕ) (enough : ℕ → Bool) (positive : Positive enough) (row nex
       }
 
   least_step : (a : Option ℕ) → smallest n row (λ u. enough (times n row u)) ≡ a
-      → smallest n next (λ u. enough (times n next u)) ≡ cond (lower a) (some v) a
-  least_step none e = rw (← times_ones n next v) (go (enough (times n next v)) refl)
+      → smallest n next (λ u. enough (times n next u)) ≡ cond (lower a) (Some v) a
+  least_step None e = rw (← times_ones n next v) (go (enough (times n next v)) refl)
     where
       fails : (w : ℕ) → enough (times n row w) ≡ false
       fails = none_passed n row enough positive e
 
       go : (b : Bool) → enough (times n next v) ≡ b
-          → smallest n next (λ u. enough (times n next u)) ≡ cond (b && true) (some v) none
+          → smallest n next (λ u. enough (times n next u)) ≡ cond (b && true) (Some v) None
       go true p =
           (lowest_iff n next enough positive v).1 (now_lowest p (λ w t. absurd (false≢true (sym (fails w) ∙ t))))
       go false p =
           none_passes n next enough
           (each (times n row) (times n next) v new there other (λ w m. enough m ≡ false) p fails)
-  least_step (some u) e = rw (← times_ones n next v) (go (enough (times n next v)) (ltb v u) refl refl)
+  least_step (Some u) e = rw (← times_ones n next v) (go (enough (times n next v)) (ltb v u) refl refl)
     where
       l : Lowest n row enough u
       l = (lowest_iff n row enough positive u).0 e
 
       go : (a b : Bool) → enough (times n next v) ≡ a → ltb v u ≡ b
-          → smallest n next (λ u. enough (times n next u)) ≡ cond (a && b) (some v) (some u)
+          → smallest n next (λ u. enough (times n next u)) ≡ cond (a && b) (Some v) (Some u)
       go true true p q =
           let smaller = ltb-true v u q in
           (lowest_iff n next enough positive v).1 (now_lowest p (λ w t. omega (arith, l.first w t)))
@@ -144,19 +144,15 @@ module _ (n : ℕ) (enough : ℕ → Bool) (positive : Positive enough) (row nex
       go false b p q =
           (lowest_iff n next enough positive u).1 (still_lowest u l (λ t. absurd (false≢true (sym p ∙ t))))
 
-  value_step : (b : Bool) (a : Option ℕ) → cond b v (value_or_0 a) ≡ value_or_0 (cond b (some v) a)
+  value_step : (b : Bool) (a : Option ℕ) → cond b v (value_or_0 a) ≡ value_or_0 (cond b (Some v) a)
   value_step true a = refl
   value_step false a = refl
 
-  found_step : (b : Bool) (a : Option ℕ) → cond b true (is_there a) ≡ is_there (cond b (some v) a)
-  found_step true a = refl
-  found_step false a = refl
-
   senders_step : (b : Bool) (a : Option ℕ) → smallest n row (most_often n row) ≡ a
-      → cond b set (senders_of n row a) ≡ senders_of n next (cond b (some v) a)
+      → cond b set (senders_of n row a) ≡ senders_of n next (cond b (Some v) a)
   senders_step true a e = refl
-  senders_step false none e = refl
-  senders_step false (some u) e =
+  senders_step false None e = refl
+  senders_step false (Some u) e =
       sym (others u (λ p. let z : times n row u ≡ 0 = rw p new in omega (arith, ((leads_iff n row u).0 e).received)))
 
   pub turn_to : with_least (with_most (tally n row enough) v (mask n (R next v))) v (mask n (R next v)) enough
@@ -166,8 +162,7 @@ module _ (n : ℕ) (enough : ℕ → Bool) (positive : Positive enough) (row nex
       let a = smallest n row (most_often n row) in
       let b = smallest n row (λ u. enough (times n row u)) in
       rw (most_step a refl, least_step b refl)
-      (same_tally (value_step (leading a) a) (senders_step (leading a) a refl) (found_step (lower b) b)
-      (value_step (lower b) b))
+      (same_tally (value_step (leading a) a) (senders_step (leading a) a refl) refl)
 
 -- a cell and a row without the values that pass a test, and the test without one value
 abbrev strike : (ℕ → Bool) → Cell → Cell
@@ -256,7 +251,7 @@ module _ (n : ℕ) (row : Row) (P : ℕ → Bool) where
 
 -- nothing counted yet
 pub struck_all : (n : ℕ) (enough : ℕ → Bool) → Positive enough → (row : Row)
-    → tally n (struck any row) enough ≡ record { value = 0; senders = 0; found = false; least = 0 }
+    → tally n (struck any row) enough ≡ record { value = 0; senders = 0; least = None }
 unfolding tally
 struck_all n enough positive row =
     rw (
@@ -274,8 +269,7 @@ pub tally_cong : (n : ℕ) (enough : ℕ → Bool) (row other : Row) → All n (
 unfolding tally R
 tally_cong n enough row other at =
     same_tally (ap value_or_0 most) (senders_cong (smallest n row (most_often n row)) ∙ ap (senders_of n other) most)
-    (ap is_there least)
-    (ap value_or_0 least)
+    least
   where
     alike : All n (λ q. value_in (row q) ≡ value_in (other q))
     alike q h = ap value_in (at q h)
@@ -290,8 +284,8 @@ tally_cong n enough row other at =
         ∙ ap (λ (f : ℕ → ℕ). smallest n other (λ v. enough (f v))) (times_alike n row other alike)
 
     senders_cong : (a : Option ℕ) → senders_of n row a ≡ senders_of n other a
-    senders_cong none = refl
-    senders_cong (some v) = mask_cong n (R row v) (R other v) (λ q h. ap (λ c. holds c (val v)) (at q h))
+    senders_cong None = refl
+    senders_cong (Some v) = mask_cong n (R row v) (R other v) (λ q h. ap (λ c. holds c (val v)) (at q h))
 
 -- all counted
 pub struck_none : (n : ℕ) (enough : ℕ → Bool) (row : Row) (P : ℕ → Bool) → mask n (among P row) ≡ 0
@@ -335,7 +329,7 @@ pub record Counted (n : ℕ) (enough : ℕ → Bool) (row : Row) (left : ℕ) (t
   pub done : t ≡ tally n (struck waits row) enough
 
 pub starts : (n : ℕ) (enough : ℕ → Bool) → Positive enough → (row : Row) (left : ℕ) → left ≡ mask n (among any row)
-    → Counted n enough row left (record { value = 0; senders = 0; found = false; least = 0 })
+    → Counted n enough row left (record { value = 0; senders = 0; least = None })
 starts n enough positive row left e =
     record { waits = any; left_is = e; done = sym (struck_all n enough positive row) }
 
@@ -358,7 +352,7 @@ module _ {n : ℕ} {enough : ℕ → Bool} {row : Row} {left : ℕ} {t : Tally} 
     waits_v : c.waits v ≡ true
     waits_v = rw v_is (left_value c.waits (row (count_trailing_zeros stations left)) next_waits.1).1
 
-    from_next : All n (λ q. from_on codes (count_trailing_zeros stations left) v q ≡ R row v q)
+    from_next : All n (λ q. from (count_trailing_zeros stations left) (sent_code codes v) q ≡ R row v q)
     unfolding R
     from_next q below =
         rw (codes_are, filled_below stations n (λ q. code_of (row q)) 0 q 0 (omega arith) below, code_holds (row q) v)
@@ -371,8 +365,8 @@ module _ {n : ℕ} {enough : ℕ → Bool} {row : Row} {left : ℕ} {t : Tally} 
             absurd (false≢true (sym (next_waits.2 q (leb-false (count_trailing_zeros stations left) q e))
             ∙ holder_waits c.waits (row q) v h waits_v))
 
-    pub senders_all : mask n (from_on codes (count_trailing_zeros stations left) v) ≡ mask n (R row v)
-    senders_all = mask_cong n (from_on codes (count_trailing_zeros stations left) v) (R row v) from_next
+    pub senders_all : mask n (from (count_trailing_zeros stations left) (sent_code codes v)) ≡ mask n (R row v)
+    senders_all = mask_cong n (from (count_trailing_zeros stations left) (sent_code codes v)) (R row v) from_next
 
   -- its value, and who sent that
   module _ (v set : ℕ) (v_is : v ≡ value_of (row (count_trailing_zeros stations left))) (set_is : set ≡ mask n (R row v)) where

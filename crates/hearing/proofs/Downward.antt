@@ -1,25 +1,44 @@
--- Loops from the highest place down: a mask in which each turn doubles what there is and adds the next station's bit,
--- and an array whose places are filled from the last. For both one law for none, one for a turn, one for the end.
-use mathlib.Core.Path.{◌≡◌, refl, sym, ap, ◌∙◌, subst}
-use mathlib.Core.Logic.{◌≢◌}
-use mathlib.Core.Bool.{Bool, true, false, ◌&&◌, cond, and-true}
-use mathlib.Core.List.{List}
+-- A loop from the highest place down: a mask in which each turn doubles what there is and adds the next station's bit.
+-- One law for none, one for a turn, one for the end.
+use mathlib.Core.Path.{◌≡◌, sym, ap, ◌∙◌, subst}
+use mathlib.Core.Bool.{Bool, true, false, ◌&&◌}
 use Prim.Native.Nat.{ℕ, zero, suc, ◌+◌, ◌-◌, ◌*◌, ◌%◌, ◌^◌, ◌≤◌, ◌<◌}
 use native.Mathlib.Nat.{lt_of_lt_of_le, zero-add, add-zero, add-suc, mul_comm, mul_left_comm, mul-add, mul-zero}
-use native.Mathlib.Nat.{mod-eq_of_lt}
+use native.Mathlib.Nat.{mod-eq_of_lt, pow-suc}
 use native.Mathlib.Omega.{arith}
-use borrow.Author.Tests.{le-leb, lt-leb, leb-true, leb-false, lt-ltb, ltb-true}
-use lib.Dec.{leb, ltb}
-use lib.ListN.{set, replicate}
+use borrow.Author.Tests.{le-leb, lt-leb}
+use lib.Dec.{leb}
+use lib.ListN.{set}
 use lib.Pow.{pow_mono, pow-add}
 use Rattle.paper.specs.Stations.{Stations, one}
 use Rattle.run.specs.Run.{stations}
-use Rattle.run.specs.Filled.{tabulate, filled}
-use Rattle.round.proofs.Matrices.{tabulate_same, tabulate_replicate, tabulate_set}
-use Rattle.hearing.specs.Masks.{mask}
+use Rattle.hearing.specs.Masks.{mask, from}
 use Rattle.hearing.proofs.Masks.{mask_lt, mask_cong, mask_none, mask_low}
 
 -- ---- a mask
+-- what one more bit makes of a mask of the places from q up and below n, and that it fits
+bit_small : (b : Bool) → one b ≤ 1
+unfolding one
+bit_small true = omega arith
+bit_small false = omega arith
+
+twice : (n q : ℕ) → 0 < q → q ≤ n → 2 ^ (n - (q - 1)) ≡ 2 * 2 ^ (n - q)
+twice n q pos h =
+    let more : n - (q - 1) ≡ suc (n - q) = omega arith in
+    ap (λ (k : ℕ). 2 ^ k) more ∙ pow-suc 2 (n - q) ∙ mul_comm (2 ^ (n - q)) 2
+
+pub one_more : (n q set : ℕ) (b : Bool) → 0 < q → q ≤ n → set < 2 ^ (n - q) → 2 * set + one b < 2 ^ (n - (q - 1))
+one_more n q set b pos h l = omega (arith, twice n q pos h, bit_small b)
+
+pub fits : (n q set : ℕ) → 0 < q → q ≤ n → n ≤ stations → set < 2 ^ (n - q) → 2 * set + 1 < 2 ^ stations
+fits n q set pos h small l =
+    let few : n - (q - 1) ≤ stations = omega arith in
+    let below : 2 ^ (n - (q - 1)) ≤ 2 ^ stations = pow_mono few in
+    omega (arith, twice n q pos h)
+
+pub room : (k : ℕ) → 0 < 2 ^ k
+room k = omega (arith, mask_lt k (λ q. false))
+
 -- of the stations of X below n those from q up, q being the lowest bit
 unfoldable pub mask_from : ℕ → ℕ → Stations → ℕ
 unfolding mask
@@ -50,11 +69,7 @@ module _ (n : ℕ) (X : Stations) where
   -- the next bit fits
   pub from_fits : (q : ℕ) → 0 < q → q ≤ n → n ≤ stations → 2 * mask_from q n X + 1 < 2 ^ stations
   unfolding mask_from
-  from_fits q pos h small =
-      let top : n - q ≤ stations - 1 = omega arith in
-      let below : mask (n - q) (λ i. X (q + i)) < 2 ^ (stations - 1) =
-      lt_of_lt_of_le (mask_lt (n - q) (λ i. X (q + i))) (pow_mono top) in
-      omega arith
+  from_fits q pos h small = fits n q (mask_from q n X) pos h small (mask_lt (n - q) (λ i. X (q + i)))
 
   pub from_all : mask_from 0 n X ≡ mask n X
   unfolding mask_from
@@ -77,13 +92,13 @@ mask_split q (suc k) X =
 
 -- a loop that stops at q has found those from q up; shifted to their places they are a mask of the whole
 pub from_shifted : (q n : ℕ) (X : Stations) → q ≤ n → n ≤ stations
-    → (mask_from q n X * 2 ^ q) % 2 ^ stations ≡ mask n (λ i. leb q i && X i)
+    → (mask_from q n X * 2 ^ q) % 2 ^ stations ≡ mask n (from q X)
 unfolding mask_from
 from_shifted q n X h small =
-    let whole : mask_from q n X * 2 ^ q ≡ mask n (λ i. leb q i && X i) = shifted in
+    let whole : mask_from q n X * 2 ^ q ≡ mask n (from q X) = shifted in
     rw whole (mod-eq_of_lt (lt_of_lt_of_le (mask_lt n (λ i. leb q i && X i)) (pow_mono small)))
   where
-    shifted : mask (n - q) (λ i. X (q + i)) * 2 ^ q ≡ mask n (λ i. leb q i && X i)
+    shifted : mask (n - q) (λ i. X (q + i)) * 2 ^ q ≡ mask n (from q X)
     shifted =
         let sum : q + (n - q) ≡ n = omega arith in
         let none : mask q (λ i. leb q i && X i) ≡ 0 =
@@ -95,34 +110,6 @@ from_shifted q n X h small =
         ∙ sym (ap (λ (k : ℕ). mask k (λ i. leb q i && X i)) (sym sum) ∙ mask_split q (n - q) (λ i. leb q i && X i)
         ∙ rw (none, rest, zero-add))
 
--- ---- an array
-module _ {ℓ} {A : Type ℓ} (m n : ℕ) (f : ℕ → A) (d : A) where
-  -- m elements: those from q up and below n from f, the others d
-  unfoldable pub filled_from : ℕ → List A
-  filled_from q = tabulate m (λ i. cond (ltb i n && leb q i) (f i) d)
-
-  pub fills_none : replicate m d ≡ filled_from n
-  unfolding filled_from
-  fills_none = tabulate_replicate m (λ i. cond (ltb i n && leb n i) (f i) d) d (λ i l. go i (ltb i n) refl)
-    where
-      go : (i : ℕ) (b : Bool) → ltb i n ≡ b → d ≡ cond (ltb i n && leb n i) (f i) d
-      go i true e = rw (e, lt-leb n i (ltb-true i n e))
-      go i false e = rw e
-
-  pub fills_more : (q : ℕ) → 0 < q → q ≤ n → n ≤ m → set (filled_from q) (q - 1) (f (q - 1)) ≡ filled_from (q - 1)
-  unfolding filled_from
-  fills_more q pos h small =
-      tabulate_set m (λ i. cond (ltb i n && leb q i) (f i) d) (λ i. cond (ltb i n && leb (q - 1) i) (f i) d) (q - 1)
-      (f (q - 1)) (omega arith)
-      (rw (lt-ltb (q - 1) n (omega arith), le-leb (q - 1) (q - 1) (omega arith)))
-      (λ j l other. ap (λ (b : Bool). cond (ltb j n && b) (f j) d) (go j other (leb q j) refl))
-    where
-      go : (j : ℕ) → j ≢ q - 1 → (b : Bool) → leb q j ≡ b → leb q j ≡ leb (q - 1) j
-      go j other true e = let l = leb-true q j e in e ∙ sym (le-leb (q - 1) j (omega arith))
-      go j other false e = let l = leb-false q j e in e ∙ sym (lt-leb (q - 1) j (omega arith))
-
-  pub fills_all : filled_from 0 ≡ filled m n f d
-  unfolding filled_from filled
-  fills_all =
-      tabulate_same m (λ i. cond (ltb i n && leb 0 i) (f i) d) (λ i. cond (ltb i n) (f i) d)
-      (λ i l. rw (le-leb 0 i (omega arith), and-true (ltb i n)))
+-- from the first of all on they are all
+pub from_first : (n : ℕ) (X : Stations) → mask n (from 0 X) ≡ mask n X
+from_first n X = mask_cong n (from 0 X) X (λ i l. rw (le-leb 0 i (omega arith)))

@@ -3,7 +3,8 @@
 -- and one more value changes both only at itself.
 use mathlib.Core.Path.{◌≡◌, refl, sym, ◌∙◌}
 use mathlib.Core.Bool.{Bool, true, false}
-use mathlib.Core.Option.{Option, none, some, none-ne-some}
+use Rattle.std.specs.Prelude.{Option, None, Some}
+use Rattle.std.proofs.lemmas.Option.{none-some}
 use mathlib.Core.Logic.{◌↔◌, ◌≢◌}
 use Prim.Native.Nat.{ℕ, ◌≤◌, ◌<◌}
 use native.Mathlib.Nat.{le_refl}
@@ -22,10 +23,10 @@ pub record Leads (f : ℕ → ℕ) (v : ℕ) : Type 0 where
   pub first : (w : ℕ) → f w ≡ f v → v ≤ w
 
 module _ (n : ℕ) (row : Row) where
-  pub leads_iff : (v : ℕ) → (smallest n row (most_often n row) ≡ some v) ↔ Leads (times n row) v
+  pub leads_iff : (v : ℕ) → (smallest n row (most_often n row) ≡ Some v) ↔ Leads (times n row) v
   leads_iff v = (to, from)
     where
-      to : smallest n row (most_often n row) ≡ some v → Leads (times n row) v
+      to : smallest n row (most_often n row) ≡ Some v → Leads (times n row) v
       to e =
           let l : Least n row (most_often n row) v = smallest_some n row (most_often n row) v e in
           let r : 0 < times n row v = (came n row v).1 (l.from, l.below, l.heard_there) in
@@ -39,7 +40,7 @@ module _ (n : ℕ) (row : Row) where
                 (λ u h. omega (arith, most_often_all n row v l.passes u)));
           }
 
-      from : Leads (times n row) v → smallest n row (most_often n row) ≡ some v
+      from : Leads (times n row) v → smallest n row (most_often n row) ≡ Some v
       from l =
           let r : Received n row v = (came n row v).0 l.received in
           smallest_is n row (most_often n row) v
@@ -51,21 +52,21 @@ module _ (n : ℕ) (row : Row) where
             least = λ q w h e t. l.first w (omega (arith, l.oftenest w, most_often_all n row w t v));
           })
 
-  pub leads_none : smallest n row (most_often n row) ≡ none → (w : ℕ) → times n row w ≡ 0
+  pub leads_none : smallest n row (most_often n row) ≡ None → (w : ℕ) → times n row w ≡ 0
   leads_none e w = go (dec_le 1 (times n row w))
     where
       go : Dec (0 < times n row w) → times n row w ≡ 0
       go (yes h) =
           let (v, f) = most_often_found n row w ((came n row w).0 h) in
-          absurd (none-ne-some v (sym e ∙ f))
+          absurd (none-some v (sym e ∙ f))
       go (no h) = omega arith
 
-  pub none_leads : ((w : ℕ) → times n row w ≡ 0) → smallest n row (most_often n row) ≡ none
+  pub none_leads : ((w : ℕ) → times n row w ≡ 0) → smallest n row (most_often n row) ≡ None
   none_leads empty = go (smallest n row (most_often n row)) refl
     where
-      go : (a : Option ℕ) → smallest n row (most_often n row) ≡ a → a ≡ none
-      go none e = refl
-      go (some v) e = absurd (omega (arith, empty v, ((leads_iff v).0 e).received))
+      go : (a : Option ℕ) → smallest n row (most_often n row) ≡ a → a ≡ None
+      go None e = refl
+      go (Some v) e = absurd (omega (arith, empty v, ((leads_iff v).0 e).received))
 
 -- a test that a value never received fails
 abbrev pub Positive : (ℕ → Bool) → Type 0
@@ -73,11 +74,11 @@ Positive pass = (m : ℕ) → pass m ≡ true → 0 < m
 
 -- where there is no smallest that passes, none passes
 pub none_passed : (n : ℕ) (row : Row) (pass : ℕ → Bool) → Positive pass
-    → smallest n row (λ u. pass (times n row u)) ≡ none → (w : ℕ) → pass (times n row w) ≡ false
+    → smallest n row (λ u. pass (times n row u)) ≡ None → (w : ℕ) → pass (times n row w) ≡ false
 none_passed n row pass positive e w = go (pass (times n row w)) refl
   where
     go : (b : Bool) → pass (times n row w) ≡ b → b ≡ false
-    go true h = let (v, f) = lowest_found n row pass positive w h in absurd (none-ne-some v (sym e ∙ f))
+    go true h = let (v, f) = lowest_found n row pass positive w h in absurd (none-some v (sym e ∙ f))
     go false h = refl
 
 -- f before the value v was counted, g after it

@@ -10,30 +10,28 @@ use lib.Dec.{ltb}
 use lib.ListN.{length, get_or, replicate, get_or-eq_default}
 use borrow.Author.Tests.{lt-ltb, le-ltb, ltb-true, ltb-false}
 use Rattle.paper.specs.Heard.{Row}
-use Rattle.run.specs.declared.Reply.{Reply}
-use Rattle.run.specs.declared.Reply.TheVariants.{Accepted}
+use Rattle.run.specs.Reply.{Reply}
+use Rattle.run.specs.Reply.{Accepted}
 use Rattle.run.specs.declared.Run.{Run}
 use Rattle.run.specs.Reply.{is_accepted}
 use Rattle.run.specs.Run.{stations}
 use Rattle.run.specs.Filled.{filled}
 use Rattle.run.proofs.Filled.{length_filled, get_or_filled, filled_same, filled_min}
-use Rattle.round.specs.declared.Slot.{Slot}
+use Rattle.round.specs.declared.Cell.{Cell}
+use Rattle.round.specs.declared.Cell.TheVariants.{Lost}
 use Rattle.round.specs.declared.Matrix.{Matrix}
 use Rattle.hearing.specs.declared.Sent.{Sent}
 use Rattle.hearing.specs.declared.Sets.{Sets}
 use Rattle.hearing.specs.declared.Survey.{Survey}
 use Rattle.round.specs.Bridge.{paper_cell, heard_in, sent_next}
-use Rattle.round.specs.Cells.{empty}
-use Rattle.round.specs.ByRow.{slot_in, read_row}
+use Rattle.round.specs.ByRow.{cell_read}
 use Rattle.round.specs.Reading.{
   votes_next,
   row_part,
-  check_row,
-  check_cells,
   check_reading,
   cells,
   matrix_of,
-  row_slots,
+  cells_of_row,
 }
 use Rattle.hearing.specs.Survey.{ho_sets, sho_sets, survey_of}
 use Rattle.hearing.specs.Surveying.{
@@ -41,55 +39,38 @@ use Rattle.hearing.specs.Surveying.{
   messages_of,
   row_of,
   sets_of,
+  row_in,
   row_sets,
   matrix_sets,
   rows_surveyed,
 }
-use Rattle.round.proofs.Turns.{turn_accepted}
 use Rattle.round.proofs.Matrices.{row_spells}
 use Rattle.hearing.proofs.Hearing.{sets_next}
 
 -- an array of n cells, read at any place
-slot_at : (n : ℕ) (f : ℕ → Slot) (q : ℕ) → n ≤ stations
-    → get_or (filled stations n f empty) q empty ≡ cond (ltb q n) (f q) empty
-slot_at n f q small = go (ltb q stations) refl
+cell_anywhere : (n : ℕ) (f : ℕ → Cell) (q : ℕ) → n ≤ stations
+    → get_or (filled stations n f Lost) q Lost ≡ cond (ltb q n) (f q) Lost
+cell_anywhere n f q small = go (ltb q stations) refl
   where
-    go : (b : Bool) → ltb q stations ≡ b → get_or (filled stations n f empty) q empty ≡ cond (ltb q n) (f q) empty
-    go true e = get_or_filled stations n f empty q empty (ltb-true q stations e)
+    go : (b : Bool) → ltb q stations ≡ b → get_or (filled stations n f Lost) q Lost ≡ cond (ltb q n) (f q) Lost
+    go true e = get_or_filled stations n f Lost q Lost (ltb-true q stations e)
     go false e =
         let past : stations ≤ q = ltb-false q stations e in
-        let long : length (filled stations n f empty) ≤ q = rw length_filled past in
-        get_or-eq_default (filled stations n f empty) empty long ∙ rw (le-ltb q n (omega arith))
+        let long : length (filled stations n f Lost) ≤ q = rw length_filled past in
+        get_or-eq_default (filled stations n f Lost) Lost long ∙ rw (le-ltb q n (omega arith))
 
-slot_cell : (b : Bool) (s : Slot) → (cond b s empty).cell ≡ cond b s.cell empty.cell
-slot_cell true s = refl
-slot_cell false s = refl
-
-module _ (voting : Bool) (n : ℕ) (bs : List ℕ) (small : n ≤ stations) (good : check_cells voting n bs ≡ Accepted)
-    (p : ℕ) (below : p < n) where
-  row_good : check_row voting n p (row_part n bs p) ≡ Accepted
-  unfolding check_cells
-  row_good = (turn_accepted (λ i. check_row voting n i (row_part n bs i)) n).0 good p below
-
-  row_cells : (read_row voting n p (row_part n bs p)).cells ≡ filled stations n (slot_in (row_part n bs p)) empty
-  unfolding read_row
-  row_cells = rw row_good
-
-  -- a row that is in order spells the receiver's cells
-  pub row_heard : row_of (read_row voting n p (row_part n bs p)).cells ≡ heard_in n bs p
-  unfolding heard_in cells
-  row_heard = fun_ext at
-    where
-      at : (q : ℕ) → row_of (read_row voting n p (row_part n bs p)).cells q ≡ heard_in n bs p q
-      at q =
-          ap (λ (l : List Slot). row_of l q) row_cells
-          ∙ ap (λ (s : Slot). paper_cell s.cell) (slot_at n (slot_in (row_part n bs p)) q small)
-          ∙ ap paper_cell (slot_cell (ltb q n) (slot_in (row_part n bs p) q))
-          ∙ rw (lt-ltb p n below)
+-- a row that is read from the bytes spells the receiver's cells
+pub row_heard : (n : ℕ) (bs : List ℕ) (p : ℕ) → n ≤ stations → p < n → row_of (row_in n bs p) ≡ heard_in n bs p
+unfolding row_in heard_in cells
+row_heard n bs p small below = fun_ext at
+  where
+    at : (q : ℕ) → row_of (row_in n bs p) q ≡ heard_in n bs p q
+    at q =
+        ap paper_cell (cell_anywhere n (cell_read (row_part n bs p)) q small) ∙ rw (lt-ltb p n below)
 
 -- and so does its row of the matrix
 pub matrix_row : (n : ℕ) (bs : List ℕ) (p : ℕ) → n ≤ stations → p < stations
-    → row_of (row_slots (matrix_of (cells n bs)) p) ≡ heard_in n bs p
+    → row_of (cells_of_row (matrix_of (cells n bs)) p) ≡ heard_in n bs p
 unfolding heard_in
 matrix_row n bs p small here = fun_ext (λ q. ap paper_cell (row_spells n bs p q small here))
 
@@ -115,25 +96,20 @@ module _ (run : Run) (bs : List ℕ) (small : run.setup.n ≤ stations) (rows : 
   rows_sho = filled_same stations run.setup.n _ _ 0 (λ p h. ap (λ (s : Sets). s.sho) (row_next p h))
 
 -- read row by row from its bytes
-module _ (run : Run) (bs : List ℕ) (small : run.setup.n ≤ stations)
-    (good : check_cells (votes_next run) run.setup.n bs ≡ Accepted) where
+module _ (run : Run) (bs : List ℕ) (small : run.setup.n ≤ stations) where
   abbrev n : ℕ
   n = run.setup.n
 
-  abbrev voting : Bool
-  voting = votes_next run
+  abbrev sent : Sent
+  sent = prescribed (votes_next run) run
 
-  pub surveyed_ho : filled stations n (λ p. (row_sets voting n (prescribed voting run) bs p).ho) 0 ≡ ho_sets n bs
+  pub surveyed_ho : filled stations n (λ p. (row_sets n sent bs p).ho) 0 ≡ ho_sets n bs
   unfolding row_sets sets_in
-  surveyed_ho =
-      rows_ho run bs small (λ p. row_of (read_row voting n p (row_part n bs p)).cells)
-      (row_heard voting n bs small good)
+  surveyed_ho = rows_ho run bs small (λ p. row_of (row_in n bs p)) (λ p l. row_heard n bs p small l)
 
-  pub surveyed_sho : filled stations n (λ p. (row_sets voting n (prescribed voting run) bs p).sho) 0 ≡ sho_sets run n bs
+  pub surveyed_sho : filled stations n (λ p. (row_sets n sent bs p).sho) 0 ≡ sho_sets run n bs
   unfolding row_sets sets_in
-  surveyed_sho =
-      rows_sho run bs small (λ p. row_of (read_row voting n p (row_part n bs p)).cells)
-      (row_heard voting n bs small good)
+  surveyed_sho = rows_sho run bs small (λ p. row_of (row_in n bs p)) (λ p l. row_heard n bs p small l)
 
 -- the survey of the matrix is that of the round that was read into it
 pub survey_done : (run : Run) (bs : List ℕ) {s : Survey} {sent : Sent} {m : Matrix} → run.setup.n ≤ stations
@@ -143,7 +119,7 @@ pub survey_done : (run : Run) (bs : List ℕ) {s : Survey} {sent : Sent} {m : Ma
 unfolding rows_surveyed survey_of matrix_sets sets_in
 survey_done run bs small good e sends reads =
     let n = run.setup.n in
-    let rows : ℕ → Row = λ p. row_of (row_slots (matrix_of (cells n bs)) p) in
+    let rows : ℕ → Row = λ p. row_of (cells_of_row (matrix_of (cells n bs)) p) in
     let spelled : (p : ℕ) → p < n → rows p ≡ heard_in n bs p = λ p l. matrix_row n bs p small (omega arith) in
     rw (e, sends, reads, good)
     (ap₂ (λ (ho sho : List ℕ). record { reply = Accepted; ho = ho; sho = sho }) (rows_ho run bs small rows spelled)

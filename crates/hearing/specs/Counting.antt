@@ -1,6 +1,6 @@
 -- A row counted as the code does it, value by value. That this comes to the row's tally is proved in
 -- proofs/Counts.antt.
-use Rattle.std.specs.Prelude.{ℕ, ◌+◌, Bool, true, false, not, ◌&&◌, ◌||◌, cond, List, eqb, leb, ltb, get_or}
+use Rattle.std.specs.Prelude.{ℕ, ◌+◌, Bool, true, false, ◌&&◌, ◌||◌, cond, Option, None, Some, List, eqb, ltb, get_or}
 use Rattle.std.specs.Int.Count.{ones}
 use Rattle.paper.specs.Stations.{Stations}
 use Rattle.paper.specs.Heard.{val, query, Cell, lost, heard, Row}
@@ -20,21 +20,23 @@ with_most t v set =
     record {
       value = cond (outdoes t v set) v t.value;
       senders = cond (outdoes t v set) set t.senders;
-      found = t.found;
       least = t.least;
     }
 
 -- and that of the smallest that came often enough, where it did too and is smaller
+abbrev pub below : ℕ → Option ℕ → Bool
+below v None = true
+below v (Some u) = ltb v u
+
 abbrev pub undercuts : Tally → ℕ → ℕ → (ℕ → Bool) → Bool
-undercuts t v set enough = enough (ones set) && (not t.found || ltb v t.least)
+undercuts t v set enough = enough (ones set) && below v t.least
 
 unfoldable pub with_least : Tally → ℕ → ℕ → (ℕ → Bool) → Tally
 with_least t v set enough =
     record {
       value = t.value;
       senders = t.senders;
-      found = cond (undercuts t v set enough) true t.found;
-      least = cond (undercuts t v set enough) v t.least;
+      least = cond (undercuts t v set enough) (Some v) t.least;
     }
 
 -- the value in a cell, 0 where it has none; whether it passes a test; whose values do
@@ -65,6 +67,6 @@ unfoldable pub spoken_in : ℕ → Row → Spoken
 unfolding filled mask
 spoken_in n row = record { codes = filled stations n (λ q. code_of (row q)) 0; senders = mask n (among any row) }
 
--- who sent v, from this sender on
-abbrev pub from_on : List ℕ → ℕ → ℕ → Stations
-from_on codes first v q = leb first q && eqb (get_or codes q 0) (v + 1)
+-- who sent v, by the codes
+abbrev pub sent_code : List ℕ → ℕ → Stations
+sent_code codes v q = eqb (get_or codes q 0) (v + 1)

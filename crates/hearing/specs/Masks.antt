@@ -1,5 +1,5 @@
 -- A set of stations as a number, a station to a bit (rule 7.8).
-use Rattle.std.specs.Prelude.{ℕ, zero, suc, ◌+◌, ◌*◌, ◌/◌, ◌%◌, ◌^◌, eqb}
+use Rattle.std.specs.Prelude.{ℕ, zero, suc, ◌+◌, ◌*◌, ◌/◌, ◌%◌, ◌^◌, leb, ◌&&◌, eqb}
 use Rattle.paper.specs.Stations.{Stations, ◌∖◌, one}
 use Rattle.run.specs.Run.{stations}
 
@@ -8,6 +8,10 @@ unfoldable pub mask : ℕ → Stations → ℕ
 unfolding one
 mask zero X = 0
 mask (suc n) X = mask n X + one (X n) * 2 ^ n
+
+-- those of X from this station on
+abbrev pub from : ℕ → Stations → Stations
+from first X q = leb first q && X q
 
 -- the stations of a mask: those whose bit is set
 unfoldable pub in_mask : ℕ → Stations

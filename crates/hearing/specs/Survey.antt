@@ -1,7 +1,8 @@
 -- The survey: HO and SHO of every receiver (rules 7.1 to 7.9, 12.6).
-use Rattle.std.specs.Prelude.{ℕ, cond, List, replicate}
+use Rattle.std.specs.Prelude.{ℕ, cond, List, replicate, Result, Ok, Err}
 use Rattle.paper.specs.Heard as heard
 use Rattle.run.specs.declared.Run.{Run}
+use Rattle.run.specs.declared.reply.Refusal.{Refusal}
 use Rattle.run.specs.Reply.{is_accepted}
 use Rattle.run.specs.Run.{stations}
 use Rattle.run.specs.Filled.{filled}
@@ -18,6 +19,11 @@ ho_sets n bs = filled stations n (λ p. mask n (heard.HO (heard_in n bs p))) 0
 unfoldable pub sho_sets : Run → ℕ → List ℕ → List ℕ
 unfolding filled mask heard_in sent_next
 sho_sets run n bs = filled stations n (λ p. mask n (heard.SHO (heard_in n bs p) (sent_next run))) 0
+
+-- what a survey answers: its sets, empty where the round is refused
+abbrev pub surveyed : Result Survey Refusal → Survey
+surveyed (Ok s) = s
+surveyed (Err r) = record { reply = Err r; ho = replicate stations 0; sho = replicate stations 0 }
 
 -- the survey of a round that the run may read, and empty sets for any other
 unfoldable pub survey_of : Run → List ℕ → Survey

@@ -11,7 +11,7 @@ ghost use Rattle.hearing.specs.Counting.{outdoes, with_most, undercuts, with_lea
 
 use super::{Tally, heard};
 use limits::{Setup, guard};
-use round::{Cell, Slot};
+use round::Cell;
 use run::Run;
 
 // The value in a cell, 0 where it has none.
@@ -19,9 +19,8 @@ fn value_of(c: Cell) -> u32
     ensures { result ≡ value_of (paper_cell c) }
 {
     match c {
-        Cell::Lost => 0,
         Cell::Value(v) => v,
-        Cell::Query => 0,
+        Cell::Lost | Cell::Query => 0,
     }
 }
 
@@ -34,6 +33,7 @@ fn outdoes(t: Tally, v: u32, set: u32) -> bool
     most < size || most == size && v < t.value
 }
 
+#[tactic(auto, unfolding(crate::specs::Counting::with_most))]
 fn with_most(t: Tally, v: u32, set: u32) -> Tally
     ensures { result ≡ with_most t v set }
 {
@@ -41,8 +41,7 @@ fn with_most(t: Tally, v: u32, set: u32) -> Tally
         Tally {
             value: v,
             senders: set,
-            found: t.found,
-            least: t.least,
+            ..t
         }
     } else {
         t
@@ -53,18 +52,18 @@ fn with_most(t: Tally, v: u32, set: u32) -> Tally
 fn undercuts(s: Setup, t: Tally, v: u32, set: u32) -> bool
     ensures { result ≡ undercuts t v set (setup.vouched (setup_of s)) }
 {
-    guard::vouched(s, set) && (!t.found || v < t.least)
+    guard::vouched(s, set) && t.least.is_none_or(|least| v < least)
 }
 
+// Beside with_most: two rules of the count, each an update of its own fields.
+#[tactic(auto, unfolding(crate::specs::Counting::with_least))]
 fn with_least(s: Setup, t: Tally, v: u32, set: u32) -> Tally
     ensures { result ≡ with_least t v set (setup.vouched (setup_of s)) }
 {
     if undercuts(s, t, v, set) {
         Tally {
-            value: t.value,
-            senders: t.senders,
-            found: true,
-            least: v,
+            least: Some(v),
+            ..t
         }
     } else {
         t
@@ -73,24 +72,22 @@ fn with_least(s: Setup, t: Tally, v: u32, set: u32) -> Tally
 
 // The count of a row of the setup's n senders, with the smallest value that came at least alpha + 1 times: one turn for
 // each different value, that of the lowest sender not counted yet.
-pub fn tally(cells: [Slot; Run::STATIONS], s: Setup) -> Tally
+pub fn tally(cells: [Cell; Run::STATIONS], s: Setup) -> Tally
     ensures { result ≡ tally (min s.n stations) (row_of cells) (setup.vouched (setup_of s)) }
 {
     let n = s.n;
     let mut t = Tally {
         value: 0,
         senders: 0,
-        found: false,
-        least: 0,
+        least: None,
     };
     let spoken = heard::spoken(cells, n);
     let codes = spoken.codes;
     let mut left = spoken.senders;
+    // a set's bits, taken value by value: no index is counted
     while left != 0 {
         let q = u32::trailing_zeros(left) as usize;
-        let slot = cells[q];
-        let c = slot.cell;
-        let v = value_of(c);
+        let v = value_of(cells[q]);
         let set = heard::senders(&codes, q, n, v);
         t = with_least(s, with_most(t, v, set), v, set);
         left -= set;

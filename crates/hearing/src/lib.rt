@@ -9,6 +9,7 @@ pub mod surveys; // HO and SHO of a round
 use run::{Reply, Run};
 
 // What each station ought to send: its value where that is given, else "?".
+// No array of Options: `prescribed` promises the run's own numbers, those beside "?" too.
 #[derive(Clone, Copy)]
 pub struct Sent {
     pub given: [bool; Run::STATIONS],
@@ -43,6 +44,5 @@ pub struct Survey {
 pub struct Tally {
     pub value: u32,
     pub senders: u32,
-    pub found: bool,
-    pub least: u32,
+    pub least: Option<u32>,
 }

@@ -7,7 +7,7 @@ use Prim.Native.Nat.{ℕ, ◌+◌, ◌*◌, ◌^◌, ◌<◌, ◌≤◌}
 use native.Mathlib.Omega.{arith}
 use lib.ListN.{length, drop, length-append, length-drop, drop_of_length-le}
 use Rattle.run.specs.declared.Run.{Run}
-use Rattle.run.specs.declared.Reply.TheVariants.{Accepted}
+use Rattle.run.specs.Reply.{Accepted}
 use Rattle.run.specs.Number.{base}
 use Rattle.run.specs.Record.{record_bytes, record_at, Fits}
 use Rattle.run.specs.Written.{written}

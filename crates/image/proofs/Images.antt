@@ -10,7 +10,7 @@ use borrow.Author.Tests.{eq-eqb, ne_eqb, eqb-true}
 use lib.ListN.{length, drop, length-append, length-drop}
 use lib.Dec.{eqb, leb}
 use Rattle.run.specs.declared.Run.{Run}
-use Rattle.run.specs.declared.Reply.TheVariants.{Accepted, Length, Malformed, Buffer, Rules}
+use Rattle.run.specs.Reply.{Accepted, Length, Malformed, Buffer, Rules}
 use Rattle.run.specs.Kinds as kind
 use Rattle.run.specs.Record.{record_bytes, record_at, bytes_of}
 use Rattle.run.specs.Reply.{is_accepted, ◌then◌, or_refuse}

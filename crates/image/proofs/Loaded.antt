@@ -14,7 +14,7 @@ use Rattle.run.specs.declared.Station.{Station}
 use Rattle.run.specs.declared.record.Record.{Record}
 use Rattle.run.specs.declared.block.Shape.{Shape}
 use Rattle.run.specs.declared.block.Shape.TheVariants.{Maybe}
-use Rattle.run.specs.declared.Reply.TheVariants.{Accepted, Length, Malformed, Rules}
+use Rattle.run.specs.Reply.{Accepted, Length, Malformed, Rules}
 use Rattle.run.specs.Kinds as kind
 use Rattle.run.specs.Bytes.{IsBytes}
 use Rattle.run.specs.Record.{record_at, bytes_of}

@@ -11,8 +11,8 @@ use Rattle.run.specs.declared.Run.{Run}
 use Rattle.run.specs.declared.Station.{Station}
 use Rattle.run.specs.declared.Opened.{Opened}
 use Rattle.run.specs.declared.record.Record.{Record}
-use Rattle.run.specs.declared.Reply.{Reply}
-use Rattle.run.specs.declared.Reply.TheVariants.{Accepted}
+use Rattle.run.specs.Reply.{Reply}
+use Rattle.run.specs.Reply.{Accepted}
 use Rattle.run.specs.Kinds as kind
 use Rattle.run.specs.Bytes.{IsBytes}
 use Rattle.run.specs.Number.{base}

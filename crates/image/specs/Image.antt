@@ -7,8 +7,8 @@ use Rattle.run.specs.declared.Opened.{Opened}
 use Rattle.run.specs.declared.record.Record.{Record}
 use Rattle.run.specs.declared.block.Shape.{Shape}
 use Rattle.run.specs.declared.block.Shape.TheVariants.{Number, Maybe}
-use Rattle.run.specs.declared.Reply.{Reply}
-use Rattle.run.specs.declared.Reply.TheVariants.{Accepted, Length, Malformed, Buffer, Rules}
+use Rattle.run.specs.Reply.{Reply}
+use Rattle.run.specs.Reply.{Accepted, Length, Malformed, Buffer, Rules}
 use Rattle.run.specs.Kinds as kind
 use Rattle.run.specs.Record.{record_bytes, record_at, bytes_of}
 use Rattle.run.specs.Written.{written}

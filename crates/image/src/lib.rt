@@ -2,8 +2,11 @@
 // default and the clock, then four blocks of a record for each station: estimates, votes, decisions and their rounds.
 #![tactic(auto)]
 
-ghost use Rattle.std.specs.Prelude.{◌≡◌, ◌≤◌, length};
-ghost use Rattle.run.specs.Run.{stations};
+ghost use Rattle.std.specs.Prelude.{◌≡◌, ℕ, Bool, ◌+◌, ◌<◌, not, length};
+ghost use Rattle.run.specs.Reply.{refuse_at, Rules};
+ghost use Rattle.run.specs.First.{first};
+ghost use Rattle.run.specs.Run.{station_at};
+ghost use Rattle.run.specs.Opening.{opened};
 ghost use Rattle.image.specs.Image.{
   image_length,
   votes_from,
@@ -14,17 +17,14 @@ ghost use Rattle.image.specs.Image.{
   check_records,
   check_form,
   run_in,
-  check_votes,
-  check_decisions,
   check_rules,
   loaded,
 };
 ghost use Rattle.image.specs.Putting.{put_image};
 
-use limits::Setup;
 use put::records;
 use run::block::Shape;
-use run::{Opened, Reply, Run, block, head, kinds, record};
+use run::{Opened, Refusal, Reply, Run, Station, block, each, head, kinds, record};
 
 const CLOCK_AT: usize = 2; // where the clock stands, and what a reply names
 
@@ -44,23 +44,23 @@ const DECISIONS_SHAPE: Shape = Shape::Maybe(kinds::UNDECIDED, kinds::DECIDED);
 
 const ROUNDS_SHAPE: Shape = Shape::Number(kinds::DECISION_ROUND);
 
-// Where the other blocks begin (rule 6.2).
+// Where the other blocks begin (rule 6.2): three words of the rule; one function of a block's number is no plainer.
 fn votes_from(n: u8) -> u16
     ensures { result ≡ votes_from n }
 {
-    ESTIMATES + n as u16
+    ESTIMATES + u16::from(n)
 }
 
 fn decisions_from(n: u8) -> u16
     ensures { result ≡ decisions_from n }
 {
-    ESTIMATES + 2 * n as u16
+    ESTIMATES + 2 * u16::from(n)
 }
 
 fn rounds_from(n: u8) -> u16
     ensures { result ≡ rounds_from n }
 {
-    ESTIMATES + 3 * n as u16
+    ESTIMATES + 3 * u16::from(n)
 }
 
 // Rule 1.7.
@@ -74,84 +74,65 @@ pub fn image_length(n: u8) -> usize
 pub fn put_image(bytes: &mut [u8], run: Run)
     ensures { bytes.new ≡ put_image bytes.old run }
 {
-    let s = run.setup;
-    let n = s.n;
-    records::put_head(bytes, s, run.default);
+    let n = run.setup.n;
+    let at = |i: u8| run.station(i as usize);
+    records::put_head(bytes, run.setup, run.default);
     records::put_record(bytes, CLOCK_AT, records::plain(kinds::CLOCK, 0, run.clock));
-    let none = [false; Run::STATIONS];
-    let estimates = run.estimates;
-    records::put_block(bytes, ESTIMATES, n, ESTIMATES_SHAPE, none, estimates);
-    let voted = run.voted;
-    let votes = run.votes;
-    records::put_block(bytes, votes_from(n), n, VOTES_SHAPE, voted, votes);
-    let decided = run.decided;
-    let decisions = run.decisions;
-    records::put_block(
-        bytes,
-        decisions_from(n),
-        n,
-        DECISIONS_SHAPE,
-        decided,
-        decisions,
-    );
-    let rounds = run.rounds;
-    records::put_block(bytes, rounds_from(n), n, ROUNDS_SHAPE, none, rounds);
+    records::put_block(bytes, ESTIMATES, n, |i| {
+        records::plain(kinds::ESTIMATE, i, at(i).estimate)
+    });
+    records::put_block(bytes, votes_from(n), n, |i| {
+        records::record_of(VOTES_SHAPE, i, at(i).voted, at(i).vote)
+    });
+    records::put_block(bytes, decisions_from(n), n, |i| {
+        records::record_of(DECISIONS_SHAPE, i, at(i).decided, at(i).decision)
+    });
+    records::put_block(bytes, rounds_from(n), n, |i| {
+        records::plain(kinds::DECISION_ROUND, i, at(i).round)
+    });
 }
 
 // Saves a sound run into a buffer of exactly its image's length; a refusal writes no byte (rule 12.4).
+#[tactic(auto, unfolding(crate::specs::Image::check_save))]
 pub fn save(run: Run, out: &mut [u8]) -> Reply
     ensures reply { result ≡ check_save run (length out.old) }
     ensures bytes { out.new ≡ saved run out.old }
 {
     if !rules::sound(run) {
-        return Reply::Rules(0);
+        return Err(Refusal::Rules(0));
     }
-    let s = run.setup;
-    if out.len() != image_length(s.n) {
-        return Reply::Buffer;
+    if out.len() != image_length(run.setup.n) {
+        return Err(Refusal::Buffer);
     }
     put_image(out, run);
-    Reply::Accepted
+    Ok(())
 }
 
 // The records after the default, as far as kind, station and zero bytes go.
+#[tactic(auto, unfolding(crate::specs::Image::check_records, crate::specs::Image::check_blocks))]
 fn check_records(bytes: &[u8], n: u8) -> Reply
     ensures { result ≡ check_records bytes.now n }
 {
     if !block::is_plain(record::record_at(bytes, CLOCK_AT), kinds::CLOCK, 0) {
-        return Reply::Malformed(CLOCK_PLACE);
+        return Err(Refusal::Malformed(CLOCK_PLACE));
     }
-    let estimates = block::check_block(bytes, ESTIMATES, n, ESTIMATES_SHAPE);
-    if estimates.number() != 0 {
-        return estimates;
-    }
-    let votes = block::check_block(bytes, votes_from(n), n, VOTES_SHAPE);
-    if votes.number() != 0 {
-        return votes;
-    }
-    let decisions = block::check_block(bytes, decisions_from(n), n, DECISIONS_SHAPE);
-    if decisions.number() != 0 {
-        return decisions;
-    }
+    block::check_block(bytes, ESTIMATES, n, ESTIMATES_SHAPE)?;
+    block::check_block(bytes, votes_from(n), n, VOTES_SHAPE)?;
+    block::check_block(bytes, decisions_from(n), n, DECISIONS_SHAPE)?;
     block::check_block(bytes, rounds_from(n), n, ROUNDS_SHAPE)
 }
 
 // What the bytes are refused with before a run is read from them: the form comes first (rule 6.4).
+#[tactic(auto, unfolding(crate::specs::Image::check_form))]
 fn check_form(bytes: &[u8]) -> Reply
     ensures { result ≡ check_form bytes.now }
 {
-    let head = head::check_head(bytes);
-    if head.number() != 0 {
-        return head;
-    }
+    head::check_head(bytes)?;
     let n = head::setup_in(bytes).n;
     if bytes.len() != image_length(n) {
-        return Reply::Length;
+        return Err(Refusal::Length);
     }
-    let default = head::check_default(bytes);
-    if default.number() != 0 {
-        return default;
-    }
+    head::check_default(bytes)?;
     check_records(bytes, n)
 }
 
@@ -177,76 +158,54 @@ fn run_in(bytes: &[u8]) -> Run
     }
 }
 
-// The first vote that breaks rule 5.5, told by its record.
-fn check_votes(s: Setup, clock: u32, voted: [bool; Run::STATIONS]) -> Reply
-    requires { s.n ≤ stations }
-    ensures { result ≡ check_votes s clock voted }
+// Refuses the first station that does not fit, told by its record in the block from start on.
+fn check_stations<F: Fn(Station) -> bool>(run: &Run, start: u16, fits: F) -> Reply
+    requires { F.IsAlwaysCallable fits }
+    ensures { (f : ℕ → Bool) → ((i : ℕ) (b : Bool) → i < run.now.setup.n → F.post fits (station_at run.now i) b → b ≡ f i)
+        → result ≡ refuse_at (first run.now.setup.n (λ i. not (f i))) (λ i. Rules (start + i)) }
 {
-    let n = s.n;
-    let mut i: u8 = 0;
-    while i < n {
-        if !rules::vote_fits(s, clock, voted[i as usize]) {
-            return Reply::Rules(votes_from(n) as u32 + i as u32);
-        }
-        i += 1;
+    match each::first(run.setup.n as usize, |i| !fits(run.station(i))) {
+        Some(i) => Err(Refusal::Rules(start as u32 + i as u32)),
+        None => Ok(()),
     }
-    Reply::Accepted
 }
 
-// The first decision that breaks rule 5.6 or 5.7, told by the record of its round.
-fn check_decisions(
-    s: Setup,
-    clock: u32,
-    decided: [bool; Run::STATIONS],
-    rounds: [u32; Run::STATIONS],
-) -> Reply
-    requires { s.n ≤ stations }
-    ensures { result ≡ check_decisions s clock decided rounds }
-{
-    let n = s.n;
-    let mut i: u8 = 0;
-    while i < n {
-        let at = i as usize;
-        if !rules::decision_fits(s, clock, decided[at], rounds[at]) {
-            return Reply::Rules(rounds_from(n) as u32 + i as u32);
-        }
-        i += 1;
-    }
-    Reply::Accepted
-}
-
-// What a run that was read is refused with (rule 6.5).
-fn check_rules(run: Run) -> Reply
-    requires { run.setup.n ≤ stations }
-    ensures { result ≡ check_rules run }
+// What a run that was read is refused with (rule 6.5): its clock, or the first vote that breaks rule 5.5, or the first
+// decision that breaks rule 5.6 or 5.7, told by the record of its round.
+fn check_rules(run: &Run) -> Reply
+    ensures { result ≡ check_rules run.now }
 {
     let s = run.setup;
     let clock = run.clock;
     if clock > Run::ROUNDS {
-        return Reply::Rules(CLOCK_PLACE);
+        return Err(Refusal::Rules(CLOCK_PLACE));
     }
-    let voted = run.voted;
-    let votes = check_votes(s, clock, voted);
-    if votes.number() != 0 {
-        return votes;
-    }
-    let decided = run.decided;
-    let rounds = run.rounds;
-    check_decisions(s, clock, decided, rounds)
+    check_stations(
+        run,
+        votes_from(s.n),
+        |p| rules::vote_fits(s, clock, p.voted),
+    )?;
+    check_stations(
+        run,
+        rounds_from(s.n),
+        |p| rules::decision_fits(s, clock, p.decided, p.round),
+    )
+}
+
+// The run that an image gives, or why it gives none.
+#[tactic(auto, unfolding(crate::specs::Image::loaded, crate::specs::Image::check_image))]
+fn read(bytes: &[u8]) -> Result<Run, Refusal>
+    ensures { opened result ≡ loaded bytes.now }
+{
+    check_form(bytes)?;
+    let run = run_in(bytes);
+    check_rules(&run)?;
+    Ok(run)
 }
 
 // Loads the run that an image spells, or the idle run where the image is refused (rules 12.3 and 6.6).
 pub fn load(bytes: &[u8]) -> Opened
     ensures { result ≡ loaded bytes.now }
 {
-    let form = check_form(bytes);
-    if form.number() != 0 {
-        return Opened::none(form);
-    }
-    let run = run_in(bytes);
-    let rules = check_rules(run);
-    if rules.number() != 0 {
-        return Opened::none(rules);
-    }
-    Opened { reply: rules, run }
+    Opened::from(read(bytes))
 }

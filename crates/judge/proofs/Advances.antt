@@ -2,11 +2,12 @@
 -- the arrays are those of the run after the round. What a station's outcome needs is known of every run that keeps the
 -- rules, and then it is the paper's.
 use mathlib.Core.Path.{◌≡◌, ap, sym, ◌∙◌}
-use mathlib.Core.Bool.{Bool, false}
+use mathlib.Core.Bool.{Bool}
+use Rattle.std.specs.Prelude.{Option, None}
 use mathlib.Core.List.{List}
 use Prim.Native.Nat.{ℕ, ◌+◌, ◌≤◌, ◌<◌}
 use lib.ListN.{get_or, set, replicate}
-use Rattle.run.specs.declared.Reply.TheVariants.{Accepted}
+use Rattle.run.specs.Reply.{Accepted}
 use Rattle.run.specs.declared.Run.{Run}
 use Rattle.run.specs.Keeps.{Keeps, StationKeeps}
 use Rattle.limits.specs.Setup.{setup_of}
@@ -14,7 +15,7 @@ use Rattle.run.specs.Run.{stations, nothing, station_at}
 use Rattle.run.specs.Filled.{filled}
 use Rattle.run.proofs.Filled.{filled_none, filled_more, filled_same}
 use Rattle.run.proofs.Built.{stored, built_none, built_more, built_same}
-use Rattle.round.specs.Reading.{votes_next, check_cells}
+use Rattle.round.specs.Reading.{votes_next}
 use Rattle.round.specs.Bridge.{heard_in, station, kind_next, paper_setup}
 use Rattle.hearing.specs.Surveying.{sets_of}
 use Rattle.hearing.proofs.Hearing.{kind_votes}
@@ -24,8 +25,8 @@ use Rattle.judge.specs.declared.Stepped.{Stepped}
 use Rattle.judge.specs.Step.{station_after, fired_at, run_after, stepped}
 use Rattle.outcome.specs.Outcome.{outcome_of}
 use Rattle.outcome.specs.Told.{Tellable}
-use Rattle.judge.specs.Rows.{rows_counted}
-use Rattle.judge.specs.Taking.{told_at, begun, next_to, fires_to, fired_to, advanced}
+use Rattle.judge.specs.Rows.{all_counted}
+use Rattle.judge.specs.Taking.{told_at, begun, next_to, fired_to, advanced}
 use Rattle.judge.proofs.Countings.{counted_ho, counted_sho, counted_tally}
 use Rattle.outcome.proofs.Outcomes.{outcome_told}
 use Rattle.judge.proofs.Checks.{ho_at}
@@ -41,38 +42,29 @@ module _ (run : Run) (voting : Bool) (c : Counted) where
       built_none run.setup run.default (run.clock + 1) (λ i. nothing)
       ∙ sym (built_none run.setup run.default (run.clock + 1) (λ p. (outcome_at p).station))
 
-  pub fires_none : replicate stations false ≡ fires_to run voting c 0
-  unfolding fires_to
-  fires_none = sym (filled_none stations (λ p. (outcome_at p).fires) false)
-
-  pub fired_none : replicate stations 0 ≡ fired_to run voting c 0
+  pub fired_none : replicate stations None ≡ fired_to run voting c 0
   unfolding fired_to
-  fired_none = sym (filled_none stations (λ p. (outcome_at p).fired) 0)
+  fired_none = sym (filled_none stations (λ p. (outcome_at p).fired) None)
 
   module _ {k : ℕ} {o : Outcome} (l : k < stations) (h : o ≡ told_at run voting c k) where
     pub next_more : {a : Run} → a ≡ next_to run voting c k → stored a k o.station ≡ next_to run voting c (k + 1)
     unfolding next_to
     next_more e = rw (e, h) (built_more run.setup run.default (run.clock + 1) k (λ p. (outcome_at p).station) l)
 
-    pub fires_more : {a : List Bool} → a ≡ fires_to run voting c k → set a k o.fires ≡ fires_to run voting c (k + 1)
-    unfolding fires_to
-    fires_more e = rw (e, h) (filled_more stations k (λ p. (outcome_at p).fires) false l)
-
-    pub fired_more : {a : List ℕ} → a ≡ fired_to run voting c k → set a k o.fired ≡ fired_to run voting c (k + 1)
+    pub fired_more : {a : List (Option ℕ)} → a ≡ fired_to run voting c k
+        → set a k o.fired ≡ fired_to run voting c (k + 1)
     unfolding fired_to
-    fired_more e = rw (e, h) (filled_more stations k (λ p. (outcome_at p).fired) 0 l)
+    fired_more e = rw (e, h) (filled_more stations k (λ p. (outcome_at p).fired) None l)
 
-  pub advanced_done : {k : ℕ} {a : Run} {g : List Bool} {h : List ℕ} → a ≡ next_to run voting c k → g
-      ≡ fires_to run voting c k
-      → h ≡ fired_to run voting c k → k ≡ run.setup.n
-      → ◌≡◌ {A = Stepped} (record { reply = Accepted; run = a; fires = g; fired = h; ho = c.ho; sho = c.sho })
+  pub advanced_done : {k : ℕ} {a : Run} {h : List (Option ℕ)} → a ≡ next_to run voting c k → h ≡ fired_to run voting c k
+      → k ≡ run.setup.n
+      → ◌≡◌ {A = Stepped} (record { reply = Accepted; run = a; fired = h; ho = c.ho; sho = c.sho })
       (advanced run voting c)
   unfolding advanced
-  advanced_done e f g d = rw (e, f, g, d)
+  advanced_done e f d = rw (e, f, d)
 
 -- ---- one station
-module _ (run : Run) (bs : List ℕ) (keeps : Keeps run) (good : check_cells (votes_next run) run.setup.n bs
-    ≡ Accepted) where
+module _ (run : Run) (bs : List ℕ) (keeps : Keeps run) where
   abbrev n : ℕ
   n = run.setup.n
 
@@ -80,7 +72,7 @@ module _ (run : Run) (bs : List ℕ) (keeps : Keeps run) (good : check_cells (vo
   few = keeps.setup.n_to
 
   abbrev counted : Counted
-  counted = rows_counted (votes_next run) run bs
+  counted = all_counted (votes_next run) run bs
 
   -- what the round makes of station p
   abbrev paper_outcome : ℕ → Outcome
@@ -96,7 +88,7 @@ module _ (run : Run) (bs : List ℕ) (keeps : Keeps run) (good : check_cells (vo
         kind = kind_votes run;
         few = few;
         inequalities = keeps.setup.inequalities;
-        heard = rw (counted_ho run bs few good) (ho_at run bs few p below);
+        heard = rw (counted_ho run bs few) (ho_at run bs few p below);
         beside_no_vote = was.beside_no_vote;
         beside_undecided = was.beside_undecided;
         no_round = was.undecided;
@@ -105,7 +97,7 @@ module _ (run : Run) (bs : List ℕ) (keeps : Keeps run) (good : check_cells (vo
   told_is : (p : ℕ) → p < n → told_at run (votes_next run) counted p ≡ paper_outcome p
   unfolding station setup_of
   told_is p below =
-      rw (counted_tally run bs few good p below)
+      rw (counted_tally run bs few p below)
       (outcome_told run.setup run.default (run.clock + 1) (votes_next run) (station_at run p) (heard_in n bs p) _
       (ready p below))
 
@@ -116,13 +108,12 @@ module _ (run : Run) (bs : List ℕ) (keeps : Keeps run) (good : check_cells (vo
 
   -- so the run after the round is the paper's
   pub advanced_is : advanced run (votes_next run) counted ≡ stepped run bs
-  unfolding advanced next_to fires_to fired_to stepped run_after station_after fired_at kind_next setup_of outcome_of
+  unfolding advanced next_to fired_to stepped run_after station_after fired_at kind_next setup_of outcome_of
   advanced_is =
       rw (
         built_same run.setup run.default (run.clock + 1) n (λ p. (told_at run (votes_next run) counted p).station)
             (λ p. (paper_outcome p).station) (λ p below. ap (λ (o : Outcome). o.station) (told_is p below)),
-        column_is (λ o. o.fires) false,
-        column_is (λ o. o.fired) 0,
-        counted_ho run bs few good,
-        counted_sho run bs few good,
+        column_is (λ o. o.fired) None,
+        counted_ho run bs few,
+        counted_sho run bs few,
       )

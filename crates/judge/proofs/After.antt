@@ -3,7 +3,7 @@
 use mathlib.Core.Path.{◌≡◌, refl, subst}
 use mathlib.Core.Bool.{Bool, true, false, cond, true≢false, false≢true}
 use mathlib.Core.List.{List}
-use mathlib.Core.Option.{Option, none, some}
+use Rattle.std.specs.Prelude.{Option, None, Some}
 use Prim.Native.Nat.{ℕ, ◌+◌, ◌%◌, ◌≤◌, ◌<◌}
 use native.Mathlib.Omega.{arith}
 use lib.Dec.{eqb}
@@ -75,23 +75,23 @@ module _ (run : Run) (bs : List ℕ) (keeps : Keeps run) (p : ℕ) (below : p < 
 
   -- under U the rule fires in even rounds
   fires_even : (s : Setup) → s.algorithm ≡ byte_u → (r : ℕ) (row : heard.Row) (v : ℕ)
-      → rules.fired (setup_of s) (rules.kind_of (algorithm_of s) r) row ≡ some v → r % 2 ≡ 0
+      → rules.fired (setup_of s) (rules.kind_of (algorithm_of s) r) row ≡ Some v → r % 2 ≡ 0
   unfolding rules.fired rules.kind_of rules.deciding
   fires_even s u r row v e = go (eqb (r % 2) 0) refl
       (subst (λ (b : Bool). rules.fired (setup_of s) (rules.kind_of (cond b setup.U setup.A) r) row
-      ≡ some v) (eq-eqb s.algorithm byte_u u) e)
+      ≡ Some v) (eq-eqb s.algorithm byte_u u) e)
     where
-      go : (b : Bool) → eqb (r % 2) 0 ≡ b → rules.fired (setup_of s) (rules.kind_of setup.U r) row ≡ some v → r % 2 ≡ 0
+      go : (b : Bool) → eqb (r % 2) 0 ≡ b → rules.fired (setup_of s) (rules.kind_of setup.U r) row ≡ Some v → r % 2 ≡ 0
       go true q f = eqb-true (r % 2) 0 q
       go false q f = let z : ◌≡◌ {A = ℕ} 0 1 = cc (rw q at f) in absurd (omega arith)
 
   kept_keeps : (d : rules.Decision) (f : Option ℕ) → RoundKeeps run.setup run.clock d
-      → ((v : ℕ) → f ≡ some v → run.setup.algorithm ≡ byte_u → (run.clock + 1) % 2 ≡ 0)
+      → ((v : ℕ) → f ≡ Some v → run.setup.algorithm ≡ byte_u → (run.clock + 1) % 2 ≡ 0)
       → RoundKeeps run.setup (run.clock + 1) (rules.keep d (run.clock + 1) f)
   unfolding rules.keep
-  kept_keeps rules.undecided none k even =
+  kept_keeps rules.undecided None k even =
       record { from = λ x. absurd (false≢true x); to = λ x. absurd (false≢true x); even = λ x. absurd (false≢true x) }
-  kept_keeps rules.undecided (some v) k even = record {
+  kept_keeps rules.undecided (Some v) k even = record {
     from = λ x. omega arith;
     to = λ x. omega arith;
     even =

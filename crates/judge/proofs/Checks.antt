@@ -1,9 +1,10 @@
 -- The checks of a step, as the code makes them: a mask has as many ones as its set has stations, so 6 and 7 asked of
 -- the masks are those of the sets; and a check of two parts refuses where the first that refuses does.
 use mathlib.Core.Path.{◌≡◌, refl, ap, ap₂, sym, ◌∙◌}
-use mathlib.Core.Bool.{Bool, true, false, cond}
+use mathlib.Core.Bool.{Bool, true, false, not, cond}
+use Rattle.std.specs.Prelude.{Option, None, Some}
 use mathlib.Core.List.{List}
-use Prim.Native.Nat.{ℕ, ◌+◌, ◌≤◌, ◌<◌}
+use Prim.Native.Nat.{ℕ, zero, suc, ◌≤◌, ◌<◌}
 use native.Mathlib.Omega.{arith}
 use lib.Count.{ones}
 use lib.Dec.{eqb, ltb}
@@ -11,51 +12,46 @@ use lib.ListN.{length, get_or}
 use borrow.Author.Tests.{ltb-true, eq-eqb, ne_eqb, lt-ltb, le-ltb}
 use Rattle.paper.specs.Heard as heard
 use Rattle.paper.specs.Setup as setup
-use Rattle.run.specs.declared.Reply.{Reply}
-use Rattle.run.specs.declared.Reply.TheVariants.{Accepted, Length, Altered, Unsafe, Full, Rules}
+use Rattle.run.specs.Reply.{Reply}
+use Rattle.run.specs.Reply.{Accepted, Length, Altered, Unsafe, Full, Rules}
 use Rattle.run.specs.declared.Run.{Run}
-use Rattle.limits.specs.declared.Setup.{Setup}
 use Rattle.run.specs.Keeps.{Keeps}
-use Rattle.run.specs.Reply.{is_accepted, ◌then◌, or_refuse}
+use Rattle.run.specs.Reply.{is_accepted, ◌then◌, or_refuse, refuse_at}
+use Rattle.run.specs.First.{or_here, first}
 use Rattle.limits.specs.Setup.{is_u}
 use Rattle.run.specs.Run.{stations, most_rounds, sound}
 use Rattle.run.proofs.Filled.{filled_below}
-use Rattle.run.proofs.Replies.{then_on, then_stop, then_accepted, or_refuse_accepted, then_assoc}
+use Rattle.run.proofs.Replies.{then_stop, then_accepted, or_refuse_accepted, then_assoc}
 use Rattle.run.proofs.Sound.{sound_iff}
 use Rattle.hearing.specs.Masks.{mask, mask_without}
 use Rattle.round.specs.Reading.{in_turn, votes_next, round_length, check_cells}
 use Rattle.round.specs.Bridge.{heard_in, sent_next, paper_setup}
 use Rattle.hearing.specs.Survey.{ho_sets, sho_sets}
 use Rattle.hearing.specs.Surveying.{sets_of}
-use Rattle.round.proofs.Turns.{turn_returns, turn_on, turn_same}
+use Rattle.round.proofs.Turns.{turn_same}
 use Rattle.hearing.proofs.Hearing.{safe_told, altered_told}
 use Rattle.judge.specs.declared.Stepped.{Stepped}
 use Rattle.judge.specs.Step.{altered, safe, check_altered, check_safe, check_step, stepped, unstepped, step_of}
-use Rattle.judge.specs.Taking.{check_room, altered_asked, safe_asked, sets_asked}
+use Rattle.judge.specs.Taking.{check_room, few_at, enough_at, altered_asked, safe_asked, sets_asked}
 
--- ---- a test asked in turn, with the refusal at its place
+-- ---- a test asked in turn refuses at the lowest place that fails it
 module _ (test : ℕ → Bool) (r : ℕ → Reply) (refuses : (i : ℕ) → is_accepted (r i) ≡ false) where
   abbrev asked : ℕ → Reply
   asked i = or_refuse (test i) (r i)
 
-  pub asked_refused : (n i : ℕ) → in_turn i asked ≡ Accepted → test i ≡ false → i < n → r i ≡ in_turn n asked
-  asked_refused n i before e l = turn_returns asked n i before (rw e) (rw e (refuses i)) l
+  abbrev failing : ℕ → Bool
+  failing i = not (test i)
 
-  pub asked_on : (i : ℕ) → in_turn i asked ≡ Accepted → test i ≡ true → in_turn (i + 1) asked ≡ Accepted
-  asked_on i before e = turn_on asked i before (rw e)
+  one_more : (o : Option ℕ) (b : Bool) (n : ℕ) → (refuse_at o r then or_refuse b (r n))
+      ≡ refuse_at (or_here o (not b) n) r
+  one_more None true n = refl
+  one_more None false n = refl
+  one_more (Some i) b n = then_stop (r i) (or_refuse b (r n)) (refuses i)
 
--- ---- 6, then 7
-module _ (s : Setup) (ho sho : List ℕ) where
-  pub sets_few : is_accepted (altered_asked s ho sho) ≡ false → altered_asked s ho sho ≡ sets_asked s ho sho
-  unfolding sets_asked
-  sets_few f = sym (then_stop (altered_asked s ho sho) (cond (is_u s) (safe_asked s sho) Accepted) f)
-
-  pub sets_enough : altered_asked s ho sho ≡ Accepted → (u : Bool) → u ≡ is_u s → cond u (safe_asked s sho) Accepted
-      ≡ sets_asked s ho sho
-  unfolding sets_asked
-  sets_enough few u e =
-      ap (λ (b : Bool). cond b (safe_asked s sho) Accepted) e
-      ∙ sym (then_on (altered_asked s ho sho) (cond (is_u s) (safe_asked s sho) Accepted) (ap is_accepted few))
+  turn_first : (n : ℕ) → in_turn n asked ≡ refuse_at (first n failing) r
+  unfolding in_turn first
+  turn_first zero = refl
+  turn_first (suc n) = rw (turn_first n) (one_more (first n failing) (test n) n)
 
 -- ---- the masks tell the sizes of the sets
 module _ (run : Run) (bs : List ℕ) (few : run.setup.n ≤ stations) where
@@ -72,8 +68,9 @@ module _ (run : Run) (bs : List ℕ) (few : run.setup.n ≤ stations) where
 
   few_told : altered_asked run.setup (ho_sets n bs) (sho_sets run n bs) ≡ check_altered run bs
   unfolding altered_asked check_altered
-  few_told = turn_same n _ _ (λ p l. ap (λ (k : ℕ). or_refuse (setup.tolerated (paper_setup run) k) (Altered p))
-      (at p l))
+  few_told =
+      sym (turn_first (few_at run.setup (ho_sets n bs) (sho_sets run n bs)) Altered (λ p. refl) n)
+      ∙ turn_same n _ _ (λ p l. ap (λ (k : ℕ). or_refuse (setup.tolerated (paper_setup run) k) (Altered p)) (at p l))
     where
       at : (p : ℕ) → p < n → ones (mask_without (get_or (ho_sets n bs) p 0) (get_or (sho_sets run n bs) p 0))
           ≡ altered run bs p
@@ -83,7 +80,8 @@ module _ (run : Run) (bs : List ℕ) (few : run.setup.n ≤ stations) where
   unfolding safe_asked check_safe
   enough_told =
       ap (λ (r : Reply). cond (is_u run.setup) r Accepted)
-      (turn_same n _ _ (λ p l. ap (λ (k : ℕ). or_refuse (setup.passes_bound (paper_setup run) k) (Unsafe p)) (at p l)))
+      (sym (turn_first (enough_at run.setup (sho_sets run n bs)) Unsafe (λ p. refl) n)
+      ∙ turn_same n _ _ (λ p l. ap (λ (k : ℕ). or_refuse (setup.passes_bound (paper_setup run) k) (Unsafe p)) (at p l)))
     where
       at : (p : ℕ) → p < n → ones (get_or (sho_sets run n bs) p 0) ≡ safe run bs p
       at p l = rw (sho_at p l) (safe_told n (heard_in n bs p) (sent_next run))

@@ -3,7 +3,7 @@
 use mathlib.Core.Path.{◌≡◌, refl, subst}
 use mathlib.Core.Bool.{Bool, true, false, ◌&&◌, cond}
 use mathlib.Core.List.{List}
-use mathlib.Core.Option.{Option, none, some}
+use Rattle.std.specs.Prelude.{Option, None, Some}
 use Prim.Native.Nat.{ℕ, ◌+◌, ◌*◌, ◌^◌, ◌<◌}
 use native.Mathlib.Omega.{arith}
 use lib.Dec.{eqb, ltb}
@@ -33,8 +33,8 @@ use Rattle.judge.specs.Step.{station_after, entries_after, run_after}
 
 -- 32 bits hold the value, where there is one
 abbrev Small : Option ℕ → Type 0
-Small none = Unit {0}
-Small (some v) = v < 2 ^ 32
+Small None = Unit {0}
+Small (Some v) = v < 2 ^ 32
 
 abbrev SmallCell : heard.Cell → Type 0
 SmallCell heard.lost = Unit {0}
@@ -70,13 +70,13 @@ module _ (row : heard.Row) (small : SmallRow row) where
   smallest_small n test = go (rules.smallest n row test) refl
     where
       go : (o : Option ℕ) → rules.smallest n row test ≡ o → Small o
-      go none e = tt
-      go (some v) e = let l = smallest_some n row test v e in subst SmallCell l.heard_there (small l.from)
+      go None e = tt
+      go (Some v) e = let l = smallest_some n row test v e in subst SmallCell l.heard_there (small l.from)
 
   or_else_small : (o : Option ℕ) (x : ℕ) → Small o → x < 2 ^ 32 → rules.or_else o x < 2 ^ 32
   unfolding rules.or_else
-  or_else_small none x s h = h
-  or_else_small (some v) x s h = s
+  or_else_small None x s h = h
+  or_else_small (Some v) x s h = s
 
   estimate_small : (S : setup.Setup) (default : ℕ) (k : rules.Kind) (s : rules.Station) → default < 2 ^ 32
       → s.estimate < 2 ^ 32
@@ -98,8 +98,8 @@ module _ (row : heard.Row) (small : SmallRow row) where
   vote_or_else_small : (o : Option ℕ) (m : heard.Message) → Small o → value_in m < 2 ^ 32
       → value_in (rules.vote_or_else o m) < 2 ^ 32
   unfolding rules.vote_or_else
-  vote_or_else_small none m s h = h
-  vote_or_else_small (some v) m s h = s
+  vote_or_else_small None m s h = h
+  vote_or_else_small (Some v) m s h = s
 
   vote_small : (S : setup.Setup) (k : rules.Kind) (s : rules.Station) → value_in s.vote < 2 ^ 32
       → value_in (rules.next_vote S k s row) < 2 ^ 32
@@ -117,22 +117,22 @@ module _ (row : heard.Row) (small : SmallRow row) where
       test : ℕ → Bool
       test v = setup.passes_e S (rules.times S.n row v)
 
-      go : (b : Bool) → Small (cond b (rules.smallest S.n row test) none)
+      go : (b : Bool) → Small (cond b (rules.smallest S.n row test) None)
       go true = smallest_small S.n test
       go false = tt
 
 keep_small : (d : rules.Decision) (r : ℕ) (f : Option ℕ) → decision_in d < 2 ^ 32 → Small f
     → decision_in (rules.keep d r f) < 2 ^ 32
 unfolding rules.keep
-keep_small rules.undecided r none h s = h
-keep_small rules.undecided r (some v) h s = s
+keep_small rules.undecided r None h s = h
+keep_small rules.undecided r (Some v) h s = s
 keep_small (rules.decided v r₀) r f h s = h
 
 keep_round : (d : rules.Decision) (r : ℕ) (f : Option ℕ) → round_in d < 2 ^ 32 → r < 2 ^ 32
     → round_in (rules.keep d r f) < 2 ^ 32
 unfolding rules.keep
-keep_round rules.undecided r none h s = h
-keep_round rules.undecided r (some v) h s = s
+keep_round rules.undecided r None h s = h
+keep_round rules.undecided r (Some v) h s = s
 keep_round (rules.decided v r₀) r f h s = h
 
 -- ---- the run after a round

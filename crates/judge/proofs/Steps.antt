@@ -10,8 +10,8 @@ use lib.Dec.{eqb, ltb}
 use borrow.Author.Tests.{ltb-true}
 use Rattle.paper.specs.Setup as setup
 use Rattle.run.specs.declared.Run.{Run}
-use Rattle.run.specs.declared.Reply.{Reply}
-use Rattle.run.specs.declared.Reply.TheVariants.{Accepted, Length, Altered, Unsafe, Full, Rules}
+use Rattle.run.specs.Reply.{Reply}
+use Rattle.run.specs.Reply.{Accepted, Length, Altered, Unsafe, Full, Rules}
 use Rattle.run.specs.Keeps.{Keeps}
 use Rattle.run.specs.Reply.{is_accepted, ◌then◌, or_refuse}
 use Rattle.limits.specs.Setup.{is_u}

@@ -1,13 +1,13 @@
 -- Taking one round: the checks in the order of rule 12.8, and the paper's rules for what then holds (rules 8 and 9).
-use Rattle.std.specs.Prelude.{ℕ, ◌+◌, false, cond, List, length, replicate, eqb, ltb}
-use Rattle.std.proofs.Math.Option.{Option}
+use Rattle.std.specs.Prelude.{ℕ, ◌+◌, cond, List, length, replicate, eqb, ltb}
+use Rattle.std.specs.Prelude.{Option, None}
 use Rattle.paper.specs.Stations.{size}
 use Rattle.paper.specs.Heard as heard
 use Rattle.paper.specs.Setup as setup
 use Rattle.paper.specs.Rules as rules
 use Rattle.limits.specs.Setup.{is_u, setup_of}
-use Rattle.run.specs.declared.Reply.{Reply}
-use Rattle.run.specs.declared.Reply.TheVariants.{Accepted, Length, Altered, Unsafe, Full, Rules}
+use Rattle.run.specs.Reply.{Reply}
+use Rattle.run.specs.Reply.{Accepted, Length, Altered, Unsafe, Full, Rules}
 use Rattle.run.specs.declared.Run.{Run}
 use Rattle.run.specs.declared.Station.{Station}
 use Rattle.run.specs.Reply.{is_accepted, ◌then◌, or_refuse}
@@ -16,7 +16,6 @@ use Rattle.run.specs.Filled.{filled}
 use Rattle.round.specs.Bridge.{paper_setup, entries, heard_in, station, kind_next, sent_next}
 use Rattle.round.specs.Reading.{in_turn, votes_next, round_length, check_cells}
 use Rattle.hearing.specs.Survey.{ho_sets, sho_sets}
-use Rattle.hearing.specs.Tally.{is_there, value_or_0}
 use Rattle.judge.specs.declared.Stepped.{Stepped}
 
 -- |AHO(p)| and |SHO(p)| of the round that these bytes spell
@@ -73,8 +72,7 @@ unstepped r run =
     record {
       reply = r;
       run = run;
-      fires = replicate stations false;
-      fired = replicate stations 0;
+      fired = replicate stations None;
       ho = replicate stations 0;
       sho = replicate stations 0;
     }
@@ -86,8 +84,7 @@ stepped run bs =
     record {
       reply = Accepted;
       run = run_after run bs;
-      fires = filled stations run.setup.n (λ p. is_there (fired_at run bs p)) false;
-      fired = filled stations run.setup.n (λ p. value_or_0 (fired_at run bs p)) 0;
+      fired = filled stations run.setup.n (fired_at run bs) None;
       ho = ho_sets run.setup.n bs;
       sho = sho_sets run run.setup.n bs;
     }

@@ -1,58 +1,45 @@
 // The rows of a round, each read once: its records checked, its sets, and how often its values came (rules 7).
-ghost use Rattle.std.specs.Prelude.{◌≡◌, ◌≤◌};
-ghost use Rattle.run.specs.Run.{stations};
-ghost use Rattle.judge.specs.Rows.{uncounted, rows_counted};
+ghost use Rattle.std.specs.Prelude.{◌≡◌};
+ghost use Rattle.judge.specs.Rows.{rows_counted};
 
-use super::Counted;
+use super::{Counted, Ready};
 use hearing::{Tally, count, heard};
 use round::read;
-use run::{Reply, Run};
+use run::{Refusal, Run};
 
 // The count of a row that has no values.
 const NO_VALUE: Tally = Tally {
     value: 0,
     senders: 0,
-    found: false,
-    least: 0,
+    least: None,
 };
 
-// What a round with a record at fault tells: nothing but that.
-fn uncounted(reply: Reply) -> Counted
-    ensures { result ≡ uncounted reply }
-{
-    Counted {
-        reply,
-        ho: [0; Run::STATIONS],
-        sho: [0; Run::STATIONS],
-        tallies: [NO_VALUE; Run::STATIONS],
-    }
-}
-
-// Reads the rows in order: the first record at fault, or the sets and the count of each row. `voting`: this is a vote
-// round.
-pub(crate) fn count_rows(run: Run, round: &[u8], voting: bool) -> Counted
-    requires { run.setup.n ≤ stations }
-    ensures { result ≡ rows_counted voting run round.now }
-{
-    let setup = run.setup;
-    let n = setup.n;
-    let last = n as usize;
-    let sent = heard::prescribed(voting, run);
-    let mut counted = uncounted(Reply::Accepted);
-    let mut p: usize = 0;
-    while p < last {
-        let receiver = p as u8;
-        let row = read::read_row(read::row_part(round, n, receiver), voting, receiver, n);
-        let reply = row.reply;
-        if reply.number() != 0 {
-            return uncounted(reply);
+impl Ready {
+    // Reads the rows of a round in order: the first record at fault, or the sets and the count of each row.
+    pub(crate) fn count_rows(&self, round: &[u8]) -> Result<Counted, Refusal>
+        ensures { result ≡ rows_counted self.now.voting self.now.run round.now }
+    {
+        let setup = self.run.setup;
+        let n = setup.n;
+        let sent = heard::prescribed(self.voting, self.run);
+        let mut counted = Counted {
+            ho: [0; Run::STATIONS],
+            sho: [0; Run::STATIONS],
+            tallies: [NO_VALUE; Run::STATIONS],
+        };
+        for receiver in 0..n {
+            let cells = read::read_row(
+                read::row_part(round, n, receiver),
+                self.voting,
+                receiver,
+                n,
+            )?;
+            let sets = heard::sets_of(cells, sent, n);
+            let p = receiver as usize;
+            counted.ho[p] = sets.ho;
+            counted.sho[p] = sets.sho;
+            counted.tallies[p] = count::tally(cells, setup);
         }
-        let cells = row.cells;
-        let sets = heard::sets_of(cells, sent, n);
-        counted.ho[p] = sets.ho;
-        counted.sho[p] = sets.sho;
-        counted.tallies[p] = count::tally(cells, setup);
-        p += 1;
+        Ok(counted)
     }
-    counted
 }

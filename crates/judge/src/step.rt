@@ -1,84 +1,31 @@
 // One round taken: its checks in order, and what becomes of each station (rules 9.11 and 12.8).
-ghost use Rattle.std.specs.Prelude.{◌≡◌, ◌≤◌, ◌<◌};
-ghost use Rattle.run.specs.Run.{stations, most_rounds};
-ghost use Rattle.run.specs.declared.Reply.TheVariants.{Accepted};
-ghost use Rattle.round.specs.Reading.{votes_next};
+ghost use Rattle.std.specs.Prelude.{◌≡◌, ◌<◌};
+ghost use Rattle.run.specs.Run.{stations};
 ghost use Rattle.judge.specs.Step.{unstepped, step_of};
-ghost use Rattle.judge.specs.Taking.{check_room, altered_asked, safe_asked, sets_asked, begun, advanced};
+ghost use Rattle.judge.specs.Taking.{check_room, sets_asked, begun, placed, advanced, taken};
 
-use super::{Counted, Stepped, rows};
+use super::{Counted, Ready, Stepped};
 use hearing::{Sets, heard};
-use limits::{Setup, guard, is_u};
+use limits::{guard, is_u};
 use outcome::outcome_of;
 use round::read;
-use run::{Reply, Run, Station};
-
-// Refuses with 6 at the lowest receiver for which too many cells were altered.
-fn ask_altered(setup: Setup, ho: [u32; Run::STATIONS], sho: [u32; Run::STATIONS]) -> Reply
-    requires { setup.n ≤ stations }
-    ensures { result ≡ altered_asked setup ho sho }
-{
-    let n = setup.n as usize;
-    let mut p: usize = 0; // the lowest receiver first
-    while p < n {
-        let sets = Sets {
-            ho: ho[p],
-            sho: sho[p],
-        };
-        if !guard::tolerated(setup, heard::altered(sets)) {
-            return Reply::Altered(p as u32);
-        }
-        p += 1;
-    }
-    Reply::Accepted
-}
-
-// Refuses with 7 at the lowest receiver that heard too few safely.
-fn ask_safe(setup: Setup, sho: [u32; Run::STATIONS]) -> Reply
-    requires { setup.n ≤ stations }
-    ensures { result ≡ safe_asked setup sho }
-{
-    let n = setup.n as usize;
-    let mut p: usize = 0;
-    while p < n {
-        if !guard::passes_bound(setup, sho[p]) {
-            return Reply::Unsafe(p as u32);
-        }
-        p += 1;
-    }
-    Reply::Accepted
-}
-
-// 6 over all receivers, then under U 7.
-fn ask_sets(setup: Setup, ho: [u32; Run::STATIONS], sho: [u32; Run::STATIONS]) -> Reply
-    requires { setup.n ≤ stations }
-    ensures { result ≡ sets_asked setup ho sho }
-{
-    let reply = ask_altered(setup, ho, sho);
-    if reply.number() != 0 {
-        return reply;
-    }
-    if is_u(setup) {
-        return ask_safe(setup, sho);
-    }
-    Reply::Accepted
-}
+use run::{Refusal, Reply, Run, Station, each};
 
 // 10, 8, 1.
+#[tactic(auto, unfolding(crate::specs::Taking::check_room))]
 fn check_room(run: Run, round: &[u8]) -> Reply
     ensures { result ≡ check_room run round.now }
 {
     if !rules::sound(run) {
-        return Reply::Rules(0);
+        return Err(Refusal::Rules(0));
     }
     if run.clock >= Run::ROUNDS {
-        return Reply::Full;
+        return Err(Refusal::Full);
     }
-    let setup = run.setup;
-    if round.len() != read::round_length(setup.n) {
-        return Reply::Length;
+    if round.len() != read::round_length(run.setup.n) {
+        return Err(Refusal::Length);
     }
-    Reply::Accepted
+    Ok(())
 }
 
 // What a refused round answers: the run handed in, no firing and empty sets.
@@ -88,8 +35,7 @@ fn unstepped(reply: Reply, run: Run) -> Stepped
     Stepped {
         reply,
         run,
-        fires: [false; Run::STATIONS],
-        fired: [0; Run::STATIONS],
+        fired: [None; Run::STATIONS],
         ho: [0; Run::STATIONS],
         sho: [0; Run::STATIONS],
     }
@@ -100,88 +46,105 @@ fn begun(run: Run, number: u32) -> Run
     ensures { result ≡ begun run number }
 {
     let mut next = Run::idle();
-    let setup = run.setup;
-    next.setup = setup;
+    next.setup = run.setup;
     next.default = run.default;
     next.clock = number;
     next
 }
 
-// The run after a round that passed every check: each station's outcome, from what the run holds of it and what its row
-// tells.
-fn advance(run: Run, voting: bool, counted: Counted) -> Stepped
-    requires { (run.setup.n ≤ stations) × (run.clock < most_rounds) }
-    ensures { result ≡ advanced run voting counted }
+// Stores what the run then holds of station p.
+fn place(next: &mut Run, p: usize, s: Station)
+    requires { p < stations }
+    ensures { next.new ≡ placed next.old p s }
 {
-    let setup = run.setup;
-    let last = setup.n as usize;
-    let number = run.clock + 1;
-    let mut next = begun(run, number);
-    let mut fires = [false; Run::STATIONS];
-    let mut fired: [u32; Run::STATIONS] = [0; Run::STATIONS];
-    let mut p: usize = 0;
-    while p < last {
-        let s = Station {
-            estimate: run.estimates[p],
-            voted: run.voted[p],
-            vote: run.votes[p],
-            decided: run.decided[p],
-            decision: run.decisions[p],
-            round: run.rounds[p],
-        };
-        let ho = counted.ho[p];
-        let tally = counted.tallies[p];
-        let o = outcome_of(setup, run.default, number, voting, s, ho, tally);
-        next.estimates[p] = o.station.estimate;
-        next.voted[p] = o.station.voted;
-        next.votes[p] = o.station.vote;
-        next.decided[p] = o.station.decided;
-        next.decisions[p] = o.station.decision;
-        next.rounds[p] = o.station.round;
-        fires[p] = o.fires;
-        fired[p] = o.fired;
-        p += 1;
+    next.estimates[p] = s.estimate;
+    next.voted[p] = s.voted;
+    next.votes[p] = s.vote;
+    next.decided[p] = s.decided;
+    next.decisions[p] = s.decision;
+    next.rounds[p] = s.round;
+}
+
+impl Ready {
+    // 6 at the lowest receiver for which too many cells were altered; then under U 7 at the lowest that heard too few
+    // safely.
+    fn ask_sets(&self, ho: [u32; Run::STATIONS], sho: [u32; Run::STATIONS]) -> Reply
+        ensures { result ≡ sets_asked self.now.run.setup ho sho }
+    {
+        let setup = self.run.setup;
+        let n = setup.n as usize;
+        let misheard = each::first(n, |p| {
+            let sets = Sets {
+                ho: ho[p],
+                sho: sho[p],
+            };
+            !guard::tolerated(setup, heard::altered(sets))
+        });
+        if let Some(p) = misheard {
+            return Err(Refusal::Altered(p as u32));
+        }
+        if !is_u(setup) {
+            return Ok(());
+        }
+        match each::first(n, |p| !guard::passes_bound(setup, sho[p])) {
+            Some(p) => Err(Refusal::Unsafe(p as u32)),
+            None => Ok(()),
+        }
     }
-    let ho = counted.ho;
-    let sho = counted.sho;
-    Stepped {
-        reply: Reply::Accepted,
-        run: next,
-        fires,
-        fired,
-        ho,
-        sho,
+
+    // The run after a round that passed every check: each station's outcome, from what the run holds of it and what its
+    // row tells.
+    fn advance(&self, counted: Counted) -> Stepped
+        ensures { result ≡ advanced self.now.run self.now.voting counted }
+    {
+        let run = self.run;
+        let number = run.clock + 1;
+        let mut next = begun(run, number);
+        let mut fired = [None; Run::STATIONS];
+        for p in 0..run.setup.n as usize {
+            let before = run.station(p);
+            let o = outcome_of(
+                run.setup,
+                run.default,
+                number,
+                self.voting,
+                before,
+                counted.ho[p],
+                counted.tallies[p],
+            );
+            place(&mut next, p, o.station);
+            fired[p] = o.fired;
+        }
+        let ho = counted.ho;
+        let sho = counted.sho;
+        Stepped {
+            reply: Ok(()),
+            run: next,
+            fired,
+            ho,
+            sho,
+        }
     }
 }
 
-// A round that there is room for: its records, then 6 and 7 asked of its sets, and the next run.
-fn take(run: Run, round: &[u8], voting: bool) -> Stepped
-    requires { (check_room run round.now ≡ Accepted) × (voting ≡ votes_next run) }
-    ensures { result ≡ step_of run round.now }
+// A round that is accepted: room for it, its records, then 6 and 7 asked of its sets, and the next run.
+fn take(run: Run, round: &[u8]) -> Result<Stepped, Refusal>
+    ensures { taken run result ≡ step_of run round.now }
 {
-    let setup = run.setup;
-    let counted = rows::count_rows(run, round, voting);
-    let records = counted.reply;
-    if records.number() != 0 {
-        return unstepped(records, run);
-    }
-    let ho = counted.ho;
-    let sho = counted.sho;
-    let reply = ask_sets(setup, ho, sho);
-    if reply.number() != 0 {
-        return unstepped(reply, run);
-    }
-    advance(run, voting, counted)
+    check_room(run, round)?;
+    let voting = rules::may_vote(run.setup, run.clock);
+    let ready = Ready { run, voting };
+    let counted = ready.count_rows(round)?;
+    ready.ask_sets(counted.ho, counted.sho)?;
+    Ok(ready.advance(counted))
 }
 
 // Takes a round: the next run and what fired, or the run handed in with the first refusal.
 pub fn step(run: Run, round: &[u8]) -> Stepped
     ensures { result ≡ step_of run round.now }
 {
-    let reply = check_room(run, round);
-    if reply.number() != 0 {
-        return unstepped(reply, run);
+    match take(run, round) {
+        Ok(stepped) => stepped,
+        Err(refusal) => unstepped(Err(refusal), run),
     }
-    let setup = run.setup;
-    take(run, round, rules::may_vote(setup, run.clock))
 }

@@ -1,63 +1,57 @@
 // Sizes of sets, counted by their ones, against the setup's thresholds (rules 7.8, 8.2, 8.4, 9.3, 9.6, 10.8 and 10.9).
-ghost use Rattle.std.specs.Prelude.{◌≡◌, ◌-◌, max};
+ghost use Rattle.std.specs.Prelude.{◌≡◌};
 ghost use Rattle.std.specs.Int.Count.{ones};
 ghost use Rattle.paper.specs.Setup as setup;
 ghost use Rattle.limits.specs.Setup.{setup_of};
 
 use super::Setup;
+use super::inequalities::spread;
 
 // More than T.
+#[tactic(auto, unfolding(paper::specs::Setup::passes_t, crate::specs::Setup::setup_of))]
 pub fn passes_t(s: Setup, set: u32) -> bool
     ensures { result ≡ setup.passes_t (setup_of s) (ones set) }
 {
-    (s.t as u32) < u32::count_ones(set)
+    u32::from(s.t) < set.count_ones()
 }
 
-// More than E.
+// More than E. Beside passes_t: each is one comparison under the paper's own name, and a shared helper is no plainer.
+#[tactic(auto, unfolding(paper::specs::Setup::passes_e, crate::specs::Setup::setup_of))]
 pub fn passes_e(s: Setup, set: u32) -> bool
     ensures { result ≡ setup.passes_e (setup_of s) (ones set) }
 {
-    (s.e as u32) < u32::count_ones(set)
+    u32::from(s.e) < set.count_ones()
 }
 
 // At most alpha altered.
+#[tactic(auto, unfolding(paper::specs::Setup::tolerated, crate::specs::Setup::setup_of))]
 pub fn tolerated(s: Setup, set: u32) -> bool
     ensures { result ≡ setup.tolerated (setup_of s) (ones set) }
 {
-    u32::count_ones(set) <= s.alpha as u32
+    set.count_ones() <= u32::from(s.alpha)
 }
 
 // At least alpha + 1 votes.
+#[tactic(auto, unfolding(paper::specs::Setup::vouched, crate::specs::Setup::setup_of))]
 pub fn vouched(s: Setup, set: u32) -> bool
     ensures { result ≡ setup.vouched (setup_of s) (ones set) }
 {
-    s.alpha as u32 + 1 <= u32::count_ones(set)
-}
-
-// a - b, and 0 where b is the larger.
-fn less(a: u32, b: u32) -> u32
-    ensures { result ≡ a - b }
-{
-    if b <= a { a - b } else { 0 }
-}
-
-fn larger(a: u32, b: u32) -> u32
-    ensures { result ≡ max a b }
-{
-    if a <= b { b } else { a }
+    u32::from(s.alpha) + 1 <= set.count_ones()
 }
 
 // The greatest of T, alpha and n + 2 alpha - E - 1 (rule 10.9).
+#[tactic(auto, unfolding(paper::specs::Setup::safe_bound, crate::specs::Setup::setup_of))]
 fn safe_bound(s: Setup) -> u32
     ensures { result ≡ setup.safe_bound (setup_of s) }
 {
-    let spread = less(less(s.n as u32 + 2 * (s.alpha as u32), s.e as u32), 1);
-    larger(larger(spread, s.t as u32), s.alpha as u32)
+    let least = spread(s).saturating_sub(u32::from(s.e) + 1);
+    least.max(u32::from(s.t)).max(u32::from(s.alpha))
 }
 
 // More than that bound.
+#[tactic(auto, unfolding(paper::specs::Setup::passes_bound))]
 pub fn passes_bound(s: Setup, set: u32) -> bool
     ensures { result ≡ setup.passes_bound (setup_of s) (ones set) }
 {
-    safe_bound(s) < u32::count_ones(set)
+    safe_bound(s) < set.count_ones()
 }

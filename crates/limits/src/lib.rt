@@ -14,7 +14,7 @@ pub const U: u8 = 2;
 
 // The parameters of a run. The algorithm stays the byte of the tape: A, U, 0 in the idle run, anything in a run handed
 // in.
-#[derive(Clone, Copy)]
+#[derive(Clone, Copy, Debug, PartialEq, Eq)]
 pub struct Setup {
     pub algorithm: u8,
     pub n: u8,
@@ -24,7 +24,7 @@ pub struct Setup {
 }
 
 // The paper's two algorithms.
-#[derive(Clone, Copy)]
+#[derive(Clone, Copy, Debug, PartialEq, Eq)]
 pub enum Algorithm {
     A,
     U,

@@ -1,16 +1,20 @@
 -- Texts put one after the other, and how long they are.
 use mathlib.Core.Path.{◌≡◌, refl, sym, ap, ap₂, ◌∙◌}
-use mathlib.Core.Bool.{Bool, true, false, cond}
+use mathlib.Core.Bool.{Bool, true, false}
 use mathlib.Core.List.{List, [], ◌∷◌, ◌++◌, append_assoc, append-nil}
-use Prim.Native.Char.{code}
 use Prim.Native.Nat.{ℕ, zero, suc, ◌+◌, ◌-◌, ◌/◌, ◌%◌, ◌≤◌, ◌<◌}
 use native.Mathlib.Numerals.{add-one}
 use native.Mathlib.Omega.{arith}
 use borrow.Author.Tests.{lt-ltb, le-ltb}
-use lib.Dec.{ltb}
-use lib.ListN.{length, take, drop, set, get_or, length-append, take-append-drop}
-use lib.Seq.{take-suc, take-suc-set, drop-set-lt, drop-drop}
-use Rattle.lines.specs.Text.{Put, PutIf, ten, digit, spelled, number, entry, entries}
+use lib.ListN.{length, take, drop, set, length-append, take-append-drop}
+use lib.Seq.{take-suc-set, drop-set-lt, drop-drop, take-append-add, drop-append-add}
+use borrow.Rule.Slice.PartMut.{put_mid, post_of}
+use native.Mathlib.Nat.{le_refl}
+use Rattle.std.specs.List.{between}
+use Rattle.std.proofs.lemmas.List.{drop_all, length-drop, length-take-le, take-append-le}
+use Rattle.std.proofs.lemmas.Slice.{between_to_end}
+use Rattle.std.specs.Prelude.{Option}
+use Rattle.lines.specs.Text.{Put, PutIf, ten, digit, spelled, entry, entries}
 
 -- nothing is put
 pub put_nothing : (b : List ℕ) (at : ℕ) → Put b at [] at b
@@ -34,20 +38,11 @@ module _ {b : List ℕ} {at m : ℕ} {b' : List ℕ} {e : ℕ} {b'' : List ℕ} 
       further : (l : List ℕ) → drop e l ≡ drop (length t) (drop m l)
       further l = ap (λ (k : ℕ). drop k l) q.ends ∙ sym (drop-drop (length t) m l)
 
-  -- an entry: a space, and the number where it is there, else the sign
-  pub put_there : (there : Bool) (x sign : ℕ) → there ≡ true → Put b at (code " " ∷ []) m b' → Put b' m (number x) e b''
-      → Put b at (entry there x sign) e b''
-  put_there there x sign is p q = rw is (put_then p q)
-
-  pub put_sign : {sign : ℕ} (there : Bool) (x : ℕ) → there ≡ false → Put b at (code " " ∷ []) m b'
-      → Put b' m (sign ∷ []) e b'' → Put b at (entry there x sign) e b''
-  put_sign there x is p q = rw is (put_then p q)
-
   -- the entries of one station more
-  pub put_station : (i : ℕ) (there : List Bool) (xs : List ℕ) (sign : ℕ) → Put b at (entries i there xs sign) m b'
-      → Put b' m (entry (get_or there i false) (get_or xs i 0) sign) e b'' → Put b at (entries (i + 1) there xs sign) e b''
+  pub put_station : (i : ℕ) (of : ℕ → Option ℕ) (sign : ℕ) → Put b at (entries i of sign) m b'
+      → Put b' m (entry (of i) sign) e b'' → Put b at (entries (i + 1) of sign) e b''
   unfolding entries
-  put_station i there xs sign p q = rw (add-one i) (put_then p q)
+  put_station i of sign p q = rw (add-one i) (put_then p q)
 
   -- the digits of a number that has more than one
   pub put_last_digit : {d : ℕ} (most x : ℕ) → Put b at (spelled (most - 1) (x / ten)) m b' → Put b' m (d ∷ []) e b''
@@ -59,11 +54,6 @@ module _ {b : List ℕ} {at m : ℕ} {b' : List ℕ} {e : ℕ} {b'' : List ℕ} 
       rw (le-ltb x ten large, ← is) (put_then (rw less at p) q)
 
 module _ {b : List ℕ} {at e : ℕ} {b' : List ℕ} where
-  -- one byte more of a text
-  pub put_more : (t : List ℕ) (i : ℕ) → Put b at (take i t) e b' → e < length b' → i < length t
-      → Put b at (take (i + 1) t) (e + 1) (set b' e (get_or t i 0))
-  put_more t i p room more = rw (add-one i, take-suc t i 0 more) (put_then p (put_one b' e (get_or t i 0) room))
-
   -- the digit of a number that has one
   pub put_digit : {d : ℕ} (most x : ℕ) → Put b at (d ∷ []) e b' → d ≡ digit x → (most ≡ 0 → ⊥) → x < ten
       → Put b at (spelled most x) e b'
@@ -71,16 +61,35 @@ module _ {b : List ℕ} {at e : ℕ} {b' : List ℕ} where
   put_digit zero x p is some small = absurd (some refl)
   put_digit (suc most) x p is some small = rw (lt-ltb x ten small, ← is) p
 
--- at most so many digits
-pub spelled_short : (most x : ℕ) → length (spelled most x) ≤ most
-unfolding spelled
-spelled_short zero x = omega arith
-spelled_short (suc most) x = go (ltb x ten) (spelled_short most (x / ten))
-  where
-    go : (b : Bool) → length (spelled most (x / ten)) ≤ most
-        → length (cond b (digit x ∷ []) (spelled most (x / ten) ++ (digit (x % ten) ∷ []))) ≤ suc most
-    go true short = omega arith
-    go false short = omega (arith, length-append (spelled most (x / ten)) (digit (x % ten) ∷ []))
+-- a text that a part of the buffer, from `at` on, begins with
+module _ (b : List ℕ) (at : ℕ) {t : List ℕ} {e : ℕ} {b' : List ℕ} (starts : at ≤ length b)
+    (long : length b' ≡ length b - at) (fits : e ≤ length b')
+    (p : Put (between at (length b) b) 0 t e b') where
+  abbrev rest : List ℕ
+  rest = post_of at (length b - at) b
+
+  last : at + e ≡ length (take at b) + e
+  last = omega (arith, length-take-le at b starts)
+
+  nothing_behind : rest ≡ []
+  nothing_behind = drop_all (length b - at) (drop at b) (omega (arith, length-drop at b))
+
+  pub put_part : Put b at t (at + e) (put_mid at (length b - at) b b')
+  put_part =
+      record {
+        ends = omega (arith, p.ends);
+        stands =
+            ap (λ (n : ℕ). take n (take at b ++ (b' ++ rest))) last
+            ∙ take-append-add (take at b) (b' ++ rest) e
+            ∙ ap (λ (l : List ℕ). take at b ++ l) (take-append-le e b' rest fits ∙ p.stands);
+        behind =
+            ap (λ (n : ℕ). drop n (take at b ++ (b' ++ rest))) last
+            ∙ drop-append-add (take at b) (b' ++ rest) e
+            ∙ ap (drop e) (ap (λ (l : List ℕ). b' ++ l) nothing_behind ∙ append-nil b')
+            ∙ p.behind
+            ∙ ap (drop e) (between_to_end b at (length b) (le_refl (length b)))
+            ∙ drop-drop e at b;
+      }
 
 -- ---- what is put where leaves one end and one buffer
 module _ {b : List ℕ} {at : ℕ} {t : List ℕ} {e e' : ℕ} {a a' : List ℕ} where

@@ -16,20 +16,24 @@ use Rattle.std.specs.Prelude.{
   ◌*◌,
   ◌/◌,
   ◌%◌,
+  ◌≤◌,
   leb,
   ltb,
   length,
   take,
   drop,
   get_or,
-  replicate,
+  Option,
+  None,
+  Some,
 }
 use Prim.Native.Char.{code}
 use Prim.Native.String.{String, [] as no_text, ◌∷◌ as ◌then_text◌}
 use Rattle.limits.specs.declared.Setup.{Setup}
 use Rattle.limits.specs.Setup.{is_u}
+use Rattle.lines.specs.declared.Pen.{Pen}
 use Rattle.run.specs.declared.Run.{Run}
-use Rattle.run.specs.declared.Reply.{Reply}
+use Rattle.run.specs.Reply.{Reply}
 use Rattle.run.specs.Reply.{number_of, place_of}
 use Rattle.run.specs.Run.{stations}
 
@@ -67,18 +71,23 @@ most_digits = 10
 abbrev pub number : ℕ → List ℕ
 number x = spelled most_digits x
 
+-- a number beside a flag that says whether it is there
+abbrev pub if_there : Bool → ℕ → Option ℕ
+if_there there x = cond there (Some x) None
+
 -- " 7", or a sign where there is no number
-abbrev pub entry : Bool → ℕ → ℕ → List ℕ
-entry there x sign = code " " ∷ cond there (number x) (sign ∷ [])
+abbrev pub entry : Option ℕ → ℕ → List ℕ
+entry (Some x) sign = code " " ∷ number x
+entry None sign = code " " ∷ sign ∷ []
 
 -- one after the other for each of the first n stations
-unfoldable pub entries : ℕ → List Bool → List ℕ → ℕ → List ℕ
-entries zero there xs sign = []
-entries (suc n) there xs sign = entries n there xs sign ++ entry (get_or there n false) (get_or xs n 0) sign
+unfoldable pub entries : ℕ → (ℕ → Option ℕ) → ℕ → List ℕ
+entries zero of sign = []
+entries (suc n) of sign = entries n of sign ++ entry (of n) sign
 
 -- a word and its entries
-abbrev pub part : List ℕ → ℕ → List Bool → List ℕ → ℕ → List ℕ
-part word n there xs sign = word ++ entries n there xs sign
+abbrev pub part : List ℕ → ℕ → (ℕ → Option ℕ) → ℕ → List ℕ
+part word n of sign = word ++ entries n of sign
 
 -- ---- lines
 abbrev pub name : Setup → ℕ
@@ -94,12 +103,12 @@ unfoldable pub setup_line : Setup → List ℕ
 setup_line s = (name s ∷ []) ++ (ascii " n=" ++ number s.n) ++ limits s ++ line_end
 
 -- "2 hold 5 5 5 vote ? ? ? decide 5 5 -": the run after a round, and for what the rule fired in it, and where (14.4)
-unfoldable pub round_line : Run → List Bool → List ℕ → List ℕ
-round_line run fires fired =
+unfoldable pub round_line : Run → List (Option ℕ) → List ℕ
+round_line run fired =
     number run.clock
-    ++ part (ascii " hold") run.setup.n (replicate stations true) run.estimates (code "?")
-    ++ part (ascii " vote") run.setup.n run.voted run.votes (code "?")
-    ++ part (ascii " decide") run.setup.n fires fired (code "-")
+    ++ part (ascii " hold") run.setup.n (λ i. Some (get_or run.estimates i 0)) (code "?")
+    ++ part (ascii " vote") run.setup.n (λ i. if_there (get_or run.voted i false) (get_or run.votes i 0)) (code "?")
+    ++ part (ascii " decide") run.setup.n (λ i. get_or fired i None) (code "-")
     ++ line_end
 
 -- a word, and "0 at 0"
@@ -127,6 +136,29 @@ answer_room = length (ascii " at \n") + 2 * most_digits
 -- no line is longer: this is a round's of all stations
 abbrev pub longest : ℕ
 longest = most_digits + length (ascii " hold vote decide\n") + 3 * (entry_room * stations)
+
+-- ---- what a pen puts
+-- there is room for so many bytes from its place on
+abbrev pub RoomFor : Pen → ℕ → Type 0
+RoomFor p n = p.at + n ≤ length p.out.now
+
+-- the text is put at its place, and the pen is behind it now
+abbrev pub Writes : Pen → List ℕ → Pen → Type 0
+Writes p text q = Put p.out.now p.at text q.at q.out.now
+
+-- the pen is at most n bytes further on, in the same buffer
+pub record Within (p : Pen) (n : ℕ) (q : Pen) : Type 0 where
+  pub upper_bound : q.at ≤ p.at + n
+  pub length_kept : length q.out.now ≡ length p.out.now
+  pub same_reference : q.out.ghost_name ≡ p.out.ghost_name
+
+-- whoever takes a pen from p to q goes no further than a line
+abbrev pub IsShort : (Pen → Pen → Type 0) → Type 0
+IsShort goes = (p q : Pen) → RoomFor p longest → goes p q → Within p longest q
+
+-- and puts this line
+abbrev pub IsLine : (Pen → Pen → Type 0) → List ℕ → Type 0
+IsLine goes line = (p q : Pen) → RoomFor p longest → goes p q → Writes p line q
 
 -- ---- where a line may be put
 -- one fits behind `at` in so many bytes

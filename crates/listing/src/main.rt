@@ -1,6 +1,7 @@
 // The listing of a tape (rules 14): the tape is read from standard input, a round at a time, and printed page by page.
 // Every function is proved safe and ending, and the pages are proved in `pages`: here bytes are moved, and no more.
-// What is read and written is tested: no contract can speak of it.
+// What is read and written is tested: no contract can speak of it. The kit's io serves: whole buffers of bytes that were
+// proved elsewhere, with nothing to format.
 #![tactic(auto)]
 
 ghost use Rattle.std.specs.Prelude.{◌+◌, ◌≤◌, length};
@@ -9,6 +10,7 @@ ghost use Rattle.lines.specs.Text.{longest};
 
 use round::read;
 use run::{Run, tape};
+use std::ops::ControlFlow;
 
 const STDIN_FILENO: i32 = 0; // standard input
 
@@ -16,7 +18,8 @@ const STDOUT_FILENO: i32 = 1; // standard output
 
 const ROUND: usize = Run::RECORD * Run::STATIONS * Run::STATIONS; // the bytes of the longest round
 
-// Reads the opening, or all there is if that is shorter, and answers how many bytes it has.
+// Reads the opening, or all there is if that is shorter, and answers how many bytes it has. A length beside the space,
+// as in `take_round`: the room is lent again for the next read, and io answers counts.
 fn take_opening(space: &mut [u8]) -> usize
     requires { longest_opening ≤ length space.old }
     ensures { result ≤ longest_opening }
@@ -57,13 +60,10 @@ fn main() {
     let mut out = io::large_buffer();
     let size = take_opening(&mut space);
     let mut listed = pages::put_first(&mut out, 0, &space[0..size]);
-    while listed.more {
-        let run = listed.run;
-        let setup = run.setup;
-        let got = take_round(&mut round, read::round_length(setup.n));
+    while let ControlFlow::Continue(run) = listed.next {
+        let got = take_round(&mut round, read::round_length(run.setup.n));
         let from = next_line(&out, listed.end);
         listed = pages::put_next(&mut out, from, run, &round[0..got]);
     }
-    let end = listed.end;
-    io::write_all(STDOUT_FILENO, &out[0..end]);
+    io::write_all(STDOUT_FILENO, &out[0..listed.end]);
 }

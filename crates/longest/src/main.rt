@@ -2,12 +2,11 @@
 // stack is measured.
 #![tactic(auto)]
 
-use limits::Setup;
+use limits::{Setup, U};
 use put::{opening, records};
 use run::record::Record;
-use run::{Run, kinds};
-
-const STDOUT_FILENO: i32 = 1; // standard output
+use run::{Run, each, kinds};
+use trial::print::Answer;
 
 const CELLS: usize = 16384; // four in each round
 
@@ -23,41 +22,31 @@ fn cell(i: usize) -> Record {
 }
 
 fn fill(tape: &mut [u8]) {
-    let mut i: usize = 0;
-    while i < CELLS {
+    for i in 0..CELLS {
         records::put_record(tape, i, cell(i));
-        i += 1;
     }
 }
 
 // U(2,1,1,0) with both stations at 7.
 fn opened() -> Run {
-    let mut starts: [u32; Run::STATIONS] = [0; Run::STATIONS];
-    starts[0] = 7;
-    starts[1] = 7;
     let setup = Setup {
-        algorithm: 2,
+        algorithm: U,
         n: 2,
         t: 1,
         e: 1,
         alpha: 0,
     };
-    let mut opening = [0u8; 32];
-    opening::write_opening(setup, 0, starts, &mut opening);
-    let o = Run::open(&opening);
-    o.run
+    let starts = each::filled(2, 0, |_| 7);
+    let mut opening = [0; 32];
+    let _ = opening::write_opening(setup, 0, starts, &mut opening);
+    Run::open(&opening).run
 }
 
-fn main() {
-    let mut tape = [0u8; 131072];
+// What can't be written is lost: the program ends all the same.
+fn main(rt: HostRuntime) {
+    let mut tape = [0; CELLS * Run::RECORD];
     fill(&mut tape);
     let played = play::play(opened(), &tape);
-    let reply = played.reply;
-    io::write_all(STDOUT_FILENO, b"rounds ");
-    io::print_decimal(STDOUT_FILENO, played.rounds as u64);
-    io::write_all(STDOUT_FILENO, b" answer ");
-    io::print_decimal(STDOUT_FILENO, reply.number() as u64);
-    io::write_all(STDOUT_FILENO, b" at ");
-    io::print_decimal(STDOUT_FILENO, reply.place() as u64);
-    io::write_all(STDOUT_FILENO, b"\n");
+    let rounds = played.rounds;
+    let _ = println!(rt; "rounds {rounds} answer {}", Answer(played.reply));
 }

@@ -3,7 +3,7 @@
 -- paper keeps.
 use mathlib.Core.Path.{◌≡◌, refl, sym}
 use mathlib.Core.Bool.{Bool, true, false, not, ◌&&◌, ◌||◌, cond}
-use mathlib.Core.Option.{Option, none, some}
+use Rattle.std.specs.Prelude.{Option, None, Some}
 use Prim.Native.Nat.{ℕ}
 use lib.Count.{ones}
 use lib.Dec.{eqb}
@@ -18,7 +18,7 @@ use Rattle.run.specs.declared.Station.{Station}
 use Rattle.round.specs.Bridge.{message, decision, paper_station, has_value, value_in, is_decided, decision_in, round_in}
 use Rattle.hearing.specs.declared.Tally.{Tally}
 use Rattle.hearing.specs.Masks.{mask}
-use Rattle.hearing.specs.Tally.{is_there, value_or_0, tally}
+use Rattle.hearing.specs.Tally.{is_there, tally}
 use Rattle.hearing.proofs.Masks.{ones_mask}
 use Rattle.hearing.proofs.Tallies.{most_told, over_t_told, over_e_told, vouched_told}
 use Rattle.outcome.specs.declared.Deeds.{Deeds}
@@ -32,30 +32,16 @@ as_held d =
       estimate = d.estimate;
       voted = has_value d.vote;
       vote = value_in d.vote;
-      fires = is_there d.decides;
-      fired = value_or_0 d.decides;
+      fired = d.decides;
     }
 
 -- ---- an answer that is there where a test passes
-if_there : (b : Bool) (v d : ℕ) → cond b v d ≡ rules.or_else (cond b (some v) none) d
-unfolding rules.or_else
-if_there true v d = refl
-if_there false v d = refl
-
-if_moves : (a b : Bool) (v e : ℕ) → cond (a && not b) v e ≡ cond a (rules.or_else (cond b none (some v)) e) e
+if_moves : (a b : Bool) (v e : ℕ) → cond (a && not b) v e ≡ cond a (rules.or_else (cond b None (Some v)) e) e
 unfolding rules.or_else
 if_moves true true v e = refl
 if_moves true false v e = refl
 if_moves false true v e = refl
 if_moves false false v e = refl
-
-there_if : (b : Bool) (v : ℕ) → b ≡ is_there (cond b (some v) none)
-there_if true v = refl
-there_if false v = refl
-
-value_if : (b : Bool) (v : ℕ) → cond b v 0 ≡ value_or_0 (cond b (some v) none)
-value_if true v = refl
-value_if false v = refl
 
 -- ---- a vote as a flag and a number
 flag_again : (b : Bool) (v : ℕ) → b ≡ has_value (message b v)
@@ -66,13 +52,13 @@ number_again : (b : Bool) (v : ℕ) → (b ≡ false → v ≡ 0) → v ≡ valu
 number_again true v z = refl
 number_again false v z = z refl
 
-flag_cast : (a b : Bool) (v w : ℕ) → (a || b) ≡ has_value (rules.vote_or_else (cond a (some v) none) (message b w))
+flag_cast : (a b : Bool) (v w : ℕ) → (a || b) ≡ has_value (rules.vote_or_else (cond a (Some v) None) (message b w))
 unfolding rules.vote_or_else
 flag_cast true b v w = refl
 flag_cast false b v w = flag_again b w
 
 number_cast : (a b : Bool) (v w : ℕ) → (b ≡ false → w ≡ 0)
-    → cond a v w ≡ value_in (rules.vote_or_else (cond a (some v) none) (message b w))
+    → cond a v w ≡ value_in (rules.vote_or_else (cond a (Some v) None) (message b w))
 unfolding rules.vote_or_else
 number_cast true b v w z = refl
 number_cast false b v w z = number_again b w z
@@ -84,22 +70,22 @@ kept_of decided f v r number = rules.keep (decision decided v r) number f
 decided_kept : (d : Bool) (f : Option ℕ) (v r number : ℕ) → (d || is_there f) ≡ is_decided (kept_of d f v r number)
 unfolding rules.keep
 decided_kept true f v r number = refl
-decided_kept false (some w) v r number = refl
-decided_kept false none v r number = refl
+decided_kept false (Some w) v r number = refl
+decided_kept false None v r number = refl
 
 decision_kept : (d : Bool) (f : Option ℕ) (v r number : ℕ) → (d ≡ false → v ≡ 0)
-    → cond d v (cond (is_there f) (value_or_0 f) v) ≡ decision_in (kept_of d f v r number)
-unfolding rules.keep
+    → cond d v (rules.or_else f v) ≡ decision_in (kept_of d f v r number)
+unfolding rules.keep rules.or_else
 decision_kept true f v r number z = refl
-decision_kept false (some w) v r number z = refl
-decision_kept false none v r number z = z refl
+decision_kept false (Some w) v r number z = refl
+decision_kept false None v r number z = z refl
 
 round_kept : (d : Bool) (f : Option ℕ) (v r number : ℕ) → (d ≡ false → r ≡ 0)
     → cond d r (cond (is_there f) number r) ≡ round_in (kept_of d f v r number)
 unfolding rules.keep
 round_kept true f v r number z = refl
-round_kept false (some w) v r number z = refl
-round_kept false none v r number z = z refl
+round_kept false (Some w) v r number z = refl
+round_kept false None v r number z = z refl
 
 -- ---- a round of each kind, told
 module _ (s : Setup) (default : ℕ) (x : Station) (row : heard.Row) (ho : ℕ) where
@@ -113,7 +99,7 @@ module _ (s : Setup) (default : ℕ) (x : Station) (row : heard.Row) (ho : ℕ) 
   p = paper_station x
 
   module _ (ok : setup.acceptable (setup_of s) ≡ true) where
-    over_e : rules.over_e S row ≡ cond (setup.passes_e S (ones t.senders)) (some t.value) none
+    over_e : rules.over_e S row ≡ cond (setup.passes_e S (ones t.senders)) (Some t.value) None
     unfolding rules.over_e setup_of
     over_e = over_e_told S row (setup.vouched S) ok
 
@@ -129,8 +115,6 @@ module _ (s : Setup) (default : ℕ) (x : Station) (row : heard.Row) (ho : ℕ) 
           ← if_moves (setup.passes_t S (size s.n (heard.HO row))) (eqb t.senders 0) t.value x.estimate,
           ← flag_again x.voted x.vote,
           ← number_again x.voted x.vote beside,
-          ← there_if (setup.passes_e S (ones t.senders)) t.value,
-          ← value_if (setup.passes_e S (ones t.senders)) t.value,
         )
 
     is_value : S.algorithm ≡ setup.U → (x.voted ≡ false → x.vote ≡ 0) → value_told s x t
@@ -149,9 +133,6 @@ module _ (s : Setup) (default : ℕ) (x : Station) (row : heard.Row) (ho : ℕ) 
         rw (
           vouched_told S row,
           over_e,
-          ← if_there t.found t.least default,
-          ← there_if (setup.passes_e S (ones t.senders)) t.value,
-          ← value_if (setup.passes_e S (ones t.senders)) t.value,
         )
 
 -- ---- all of it

@@ -4,7 +4,6 @@ use Rattle.paper.specs.Heard as heard
 use Rattle.paper.specs.Setup as setup
 use Rattle.paper.specs.Rules as rules
 use Rattle.round.specs.Bridge.{entries}
-use Rattle.hearing.specs.Tally.{is_there, value_or_0}
 use Rattle.outcome.specs.declared.Outcome.{Outcome}
 
 -- what round r makes of a station, and what fires at it
@@ -13,6 +12,5 @@ unfolding rules.kind_of rules.after rules.fired
 outcome_of S default r s row =
     record {
       station = entries (rules.after S default r s row);
-      fires = is_there (rules.fired S (rules.kind_of S.algorithm r) row);
-      fired = value_or_0 (rules.fired S (rules.kind_of S.algorithm r) row);
+      fired = rules.fired S (rules.kind_of S.algorithm r) row;
     }

@@ -1,6 +1,6 @@
 -- One station in one round, told from the count of its row. That it is what the paper's rules make of it is proved in
 -- proofs/Outcomes.antt.
-use Rattle.std.specs.Prelude.{ℕ, ◌≤◌, ◌≡◌, Bool, true, false, not, ◌&&◌, ◌||◌, cond, eqb}
+use Rattle.std.specs.Prelude.{ℕ, ◌≤◌, ◌≡◌, Bool, true, false, not, ◌&&◌, ◌||◌, cond, None, Some, eqb}
 use Rattle.std.specs.Int.Count.{ones}
 use Rattle.paper.specs.Heard as heard
 use Rattle.paper.specs.Setup as setup
@@ -11,6 +11,7 @@ use Rattle.run.specs.declared.Station.{Station}
 use Rattle.run.specs.Run.{stations}
 use Rattle.hearing.specs.declared.Tally.{Tally}
 use Rattle.hearing.specs.Masks.{mask}
+use Rattle.hearing.specs.Tally.{is_there}
 use Rattle.outcome.specs.declared.Deeds.{Deeds}
 use Rattle.outcome.specs.declared.Outcome.{Outcome}
 
@@ -22,8 +23,7 @@ update_told s x ho t =
       estimate = cond (setup.passes_t (setup_of s) (ones ho) && not (eqb t.senders 0)) t.value x.estimate;
       voted = x.voted;
       vote = x.vote;
-      fires = setup.passes_e (setup_of s) (ones t.senders);
-      fired = cond (setup.passes_e (setup_of s) (ones t.senders)) t.value 0;
+      fired = cond (setup.passes_e (setup_of s) (ones t.senders)) (Some t.value) None;
     }
 
 -- Algorithm 2, a value round: the most frequent value is voted for, if it came often enough
@@ -34,20 +34,18 @@ value_told s x t =
       estimate = x.estimate;
       voted = setup.passes_t (setup_of s) (ones t.senders) || x.voted;
       vote = cond (setup.passes_t (setup_of s) (ones t.senders)) t.value x.vote;
-      fires = false;
-      fired = 0;
+      fired = None;
     }
 
 -- Algorithm 2, a vote round: the smallest value with enough votes, else the default
 unfoldable pub vote_told : Setup → ℕ → Tally → Deeds
-unfolding setup_of
+unfolding setup_of rules.or_else
 vote_told s default t =
     record {
-      estimate = cond t.found t.least default;
+      estimate = rules.or_else t.least default;
       voted = false;
       vote = 0;
-      fires = setup.passes_e (setup_of s) (ones t.senders);
-      fired = cond (setup.passes_e (setup_of s) (ones t.senders)) t.value 0;
+      fired = cond (setup.passes_e (setup_of s) (ones t.senders)) (Some t.value) None;
     }
 
 unfoldable pub deeds_told : Setup → ℕ → Bool → Station → ℕ → Tally → Deeds
@@ -57,14 +55,15 @@ deeds_told s default voting x ho t =
 
 -- the first decision is kept, with its round
 unfoldable pub kept_told : ℕ → Station → Deeds → Station
+unfolding rules.or_else
 kept_told number x d =
     record {
       estimate = d.estimate;
       voted = d.voted;
       vote = d.vote;
-      decided = x.decided || d.fires;
-      decision = cond x.decided x.decision (cond d.fires d.fired x.decision);
-      round = cond x.decided x.round (cond d.fires number x.round);
+      decided = x.decided || is_there d.fired;
+      decision = cond x.decided x.decision (rules.or_else d.fired x.decision);
+      round = cond x.decided x.round (cond (is_there d.fired) number x.round);
     }
 
 unfoldable pub told : Setup → ℕ → ℕ → Bool → Station → ℕ → Tally → Outcome
@@ -72,7 +71,6 @@ unfolding deeds_told kept_told
 told s default number voting x ho t =
     record {
       station = kept_told number x (deeds_told s default voting x ho t);
-      fires = (deeds_told s default voting x ho t).fires;
       fired = (deeds_told s default voting x ho t).fired;
     }
 

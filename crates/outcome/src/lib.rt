@@ -12,29 +12,21 @@ use hearing::Tally;
 use limits::{Setup, guard, is_u};
 use run::Station;
 
-// What a round does: the estimate and the vote that it leaves, and the value that it decides, if any.
+// What a round does: the estimate and the vote that it leaves, and the value that it decides, if any. The vote is a flag
+// and a number as in Station: under A `told` leaves both as they were handed in.
 #[derive(Clone, Copy)]
 pub struct Deeds {
     pub estimate: u32,
     pub voted: bool,
     pub vote: u32,
-    pub fires: bool,
-    pub fired: u32,
+    pub fired: Option<u32>,
 }
 
 // What a round makes of one station: what it then holds, and for which value the decide rule fired, if it did.
 #[derive(Clone, Copy)]
 pub struct Outcome {
     pub station: Station,
-    pub fires: bool,
-    pub fired: u32,
-}
-
-// The value where there is one, else another.
-fn pick(there: bool, v: u32, other: u32) -> u32
-    ensures { result ≡ cond there v other }
-{
-    if there { v } else { other }
+    pub fired: Option<u32>,
 }
 
 // Whether A's rule moves the estimate: enough were heard, and a value was received.
@@ -44,57 +36,49 @@ fn moves(s: Setup, ho: u32, t: Tally) -> bool
     guard::passes_t(s, ho) && t.senders != 0
 }
 
-// Whether either is so.
-fn either(a: bool, b: bool) -> bool
-    ensures { result ≡ (a || b) }
-{
-    a || b
-}
-
 // Algorithm 1, each round. `t.value` came most often and `t.senders` sent it: if any value passes T or E, it is this
 // one.
+#[tactic(auto, unfolding(crate::specs::Told::update_told))]
 fn update_round(s: Setup, x: Station, ho: u32, t: Tally) -> Deeds
     ensures { result ≡ update_told s x ho t }
 {
-    let fires = guard::passes_e(s, t.senders); // lines 9 and 10
     Deeds {
-        estimate: pick(moves(s, ho, t), t.value, x.estimate), // lines 7 and 8
+        estimate: if moves(s, ho, t) { t.value } else { x.estimate }, // lines 7 and 8
         voted: x.voted, // there are no votes
         vote: x.vote,
-        fires,
-        fired: pick(fires, t.value, 0),
+        fired: guard::passes_e(s, t.senders).then_some(t.value), // lines 9 and 10
     }
 }
 
 // Algorithm 2, round 2 phi - 1.
+#[tactic(auto, unfolding(crate::specs::Told::value_told))]
 fn value_round(s: Setup, x: Station, t: Tally) -> Deeds
     ensures { result ≡ value_told s x t }
 {
     let casts = guard::passes_t(s, t.senders); // lines 8 and 9
     Deeds {
         estimate: x.estimate, // no line touches the estimate
-        voted: either(casts, x.voted),
-        vote: pick(casts, t.value, x.vote),
-        fires: false, // and none decides
-        fired: 0,
+        voted: casts || x.voted,
+        vote: if casts { t.value } else { x.vote },
+        fired: None, // and none decides
     }
 }
 
-// Algorithm 2, round 2 phi. `t.least` is the smallest value that came at least alpha + 1 times, if `t.found`.
+// Algorithm 2, round 2 phi. `t.least` is the smallest value that came at least alpha + 1 times, if one did.
+#[tactic(auto, unfolding(crate::specs::Told::vote_told))]
 fn vote_round(s: Setup, default: u32, t: Tally) -> Deeds
     ensures { result ≡ vote_told s default t }
 {
-    let fires = guard::passes_e(s, t.senders); // lines 18 and 19
     Deeds {
-        estimate: pick(t.found, t.least, default), // lines 14 to 17
+        estimate: t.least.unwrap_or(default), // lines 14 to 17
         voted: false, // line 20
         vote: 0,
-        fires,
-        fired: pick(fires, t.value, 0),
+        fired: guard::passes_e(s, t.senders).then_some(t.value), // lines 18 and 19
     }
 }
 
 // The round's deeds, by its kind. `voting`: this is a vote round.
+#[tactic(auto, unfolding(crate::specs::Told::deeds_told))]
 fn deeds_of(s: Setup, default: u32, voting: bool, x: Station, ho: u32, t: Tally) -> Deeds
     ensures { result ≡ deeds_told s default voting x ho t }
 {
@@ -108,6 +92,7 @@ fn deeds_of(s: Setup, default: u32, voting: bool, x: Station, ho: u32, t: Tally)
 }
 
 // The station after round `number`: the first decision is kept with its round, and a later firing changes nothing.
+#[tactic(auto, unfolding(crate::specs::Told::kept_told))]
 fn kept(number: u32, x: Station, d: Deeds) -> Station
     ensures { result ≡ kept_told number x d }
 {
@@ -118,13 +103,16 @@ fn kept(number: u32, x: Station, d: Deeds) -> Station
     if x.decided {
         return next;
     }
-    next.decided = d.fires;
-    next.decision = pick(d.fires, d.fired, x.decision);
-    next.round = pick(d.fires, number, x.round);
+    if let Some(v) = d.fired {
+        next.decided = true;
+        next.decision = v;
+        next.round = number;
+    }
     next
 }
 
 // What round `number` makes of one station that heard these, with this count of its row, and what fires at it.
+#[tactic(auto, unfolding(crate::specs::Told::told))]
 pub fn outcome_of(
     s: Setup,
     default: u32,
@@ -139,7 +127,6 @@ pub fn outcome_of(
     let d = deeds_of(s, default, voting, x, ho, t);
     Outcome {
         station: kept(number, x, d),
-        fires: d.fires,
         fired: d.fired,
     }
 }

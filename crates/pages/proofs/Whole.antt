@@ -6,7 +6,7 @@ use mathlib.Core.List.{List, [], ◌∷◌, ◌++◌, flatten}
 use Prim.Native.Nat.{ℕ, ◌+◌}
 use native.Mathlib.Omega.{arith}
 use lib.ListN.{length}
-use Rattle.run.specs.declared.Reply.TheVariants.{Accepted}
+use Rattle.run.specs.Reply.{Accepted}
 use Rattle.run.specs.declared.Run.{Run}
 use Rattle.run.specs.Opening.{read_opening, check_opening}
 use Rattle.run.specs.Reply.{is_accepted}

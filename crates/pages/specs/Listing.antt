@@ -15,7 +15,7 @@ use Rattle.lines.specs.Text.{setup_line, round_line, end_line, refusal_line}
 
 -- the line of an accepted round: the run after it, and what fired in it
 abbrev pub stepped_line : Stepped → List ℕ
-stepped_line s = round_line s.run s.fires s.fired
+stepped_line s = round_line s.run s.fired
 
 -- one for each accepted round, in order, until one is refused (rule 14.4)
 unfoldable pub round_lines : Run → List (List ℕ) → List (List ℕ)

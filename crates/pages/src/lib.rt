@@ -6,13 +6,14 @@
 ghost use Rattle.pages.specs.Pages.{Puts, first_page, next_page};
 
 use judge::step::step;
-use run::{Reply, Run};
+use run::Run;
+use std::ops::ControlFlow;
 
-// What putting a page answers: the run to go on with, whether another page follows, and where the text ends.
+// What putting a page answers: the run to go on with where another page follows, or else the run that the listing ends
+// at; and where the text ends.
 #[derive(Clone, Copy)]
 pub struct Listed {
-    pub run: Run,
-    pub more: bool,
+    pub next: ControlFlow<Run, Run>,
     pub end: usize,
 }
 
@@ -23,20 +24,16 @@ pub fn put_first(out: &mut [u8], at: usize, opening: &[u8]) -> Listed
 {
     let opened = Run::open(opening);
     let run = opened.run;
-    let reply = opened.reply;
-    if reply.number() != 0 {
-        let end = lines::put_refusal(out, at, reply);
+    if opened.reply.is_err() {
+        let end = lines::put_refusal(out, at, opened.reply);
         return Listed {
-            run,
-            more: false, // a refused opening has no rounds
+            next: ControlFlow::Break(run), // a refused opening has no rounds
             end,
         };
     }
-    let setup = run.setup;
-    let end = lines::put_setup(out, at, setup);
+    let end = lines::put_setup(out, at, run.setup);
     Listed {
-        run,
-        more: true,
+        next: ControlFlow::Continue(run),
         end,
     }
 }
@@ -45,31 +42,24 @@ pub fn put_first(out: &mut [u8], at: usize, opening: &[u8]) -> Listed
 pub fn put_next(out: &mut [u8], at: usize, run: Run, round: &[u8]) -> Listed
     ensures { Puts (next_page run round.now) out.old at result out.new }
 {
-    if round.len() == 0 {
-        let end = lines::put_end(out, at, run.clock, Reply::Accepted);
+    if round.is_empty() {
+        let end = lines::put_end(out, at, run.clock, Ok(()));
         return Listed {
-            run,
-            more: false, // the tape has ended
+            next: ControlFlow::Break(run), // the tape has ended
             end,
         };
     }
     let stepped = step(run, round);
-    let next = stepped.run;
-    let judged = stepped.reply;
-    if judged.number() != 0 {
-        let end = lines::put_end(out, at, run.clock, judged);
+    if stepped.reply.is_err() {
+        let end = lines::put_end(out, at, run.clock, stepped.reply);
         return Listed {
-            run: next,
-            more: false, // what is behind a refused round is not looked at
+            next: ControlFlow::Break(stepped.run), // what is behind a refused round is not looked at
             end,
         };
     }
-    let fires = stepped.fires;
-    let fired = stepped.fired;
-    let end = lines::put_round(out, at, next, fires, fired);
+    let end = lines::put_round(out, at, stepped.run, stepped.fired);
     Listed {
-        run: next,
-        more: true, // another round may follow
+        next: ControlFlow::Continue(stepped.run), // another round may follow
         end,
     }
 }

@@ -3,7 +3,7 @@
 -- kind of that round.
 use mathlib.Core.Path.{◌≡◌, refl, ap, sym, ◌∙◌, subst}
 use mathlib.Core.Bool.{Bool, true, false, cond}
-use mathlib.Core.Option.{Option, none, some}
+use Rattle.std.specs.Prelude.{Option, None, Some}
 use mathlib.Core.Logic.{◌↔◌}
 use Prim.Native.Nat.{ℕ, suc, ◌%◌}
 use native.Mathlib.Omega.{arith}
@@ -49,7 +49,7 @@ module _ (S : Setup) (r : ℕ) (s : Station) where
   unfolding sends
   even_sends own even = ap (λ (k : Kind). sends k s) (even_kind S r own even)
 
-keep_none : (d : Decision) (r : ℕ) → keep d r none ≡ d
+keep_none : (d : Decision) (r : ℕ) → keep d r None ≡ d
 unfolding keep
 keep_none undecided r = refl
 keep_none (decided v r₀) r = refl
@@ -82,9 +82,9 @@ module _ (S : Setup) (default r : ℕ) (s : Station) (row : Row) where
         from_fresh : left.decision ≡ keep undecided r (fired S k row)
         from_fresh = decision_by ∙ ap (λ (d : Decision). keep d r (fired S k row)) fresh
 
-        named : (o : Option ℕ) → keep undecided r o ≡ decided v r → o ≡ some v
-        named none e = cc
-        named (some w) e = cc
+        named : (o : Option ℕ) → keep undecided r o ≡ decided v r → o ≡ Some v
+        named None e = cc
+        named (Some w) e = cc
 
   -- ---- both algorithms
   -- the first decision stays (rule 9.10)
@@ -103,7 +103,7 @@ module _ (S : Setup) (default r : ℕ) (s : Station) (row : Row) where
       ∙ ap (λ (d : Decision). keep d r (fired S (kind_of S.algorithm r) row)) fresh
       ∙ ap (keep undecided r) (go (deciding (kind_of S.algorithm r)))
     where
-      go : (b : Bool) → cond b (over_e S row) none ≡ none
+      go : (b : Bool) → cond b (over_e S row) None ≡ None
       go true = none_passes S.n row (passes_e S) few
       go false = refl
 

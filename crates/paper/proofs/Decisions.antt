@@ -5,7 +5,7 @@ use mathlib.Core.Bool.{Bool, true, false, cond}
 use mathlib.Core.List.Memᴰ
 use mathlib.Core.List.{List, [], ◌∷◌}
 use mathlib.Core.Logic.{◌⊎◌, inl, inr, ⊎_elim}
-use mathlib.Core.Option.{Option, none, some}
+use Rattle.std.specs.Prelude.{Option, None, Some}
 use Prim.Native.Nat.{ℕ, suc, ◌≤◌, ◌<◌}
 use native.Mathlib.Nat.{le_refl}
 use native.Mathlib.Omega.{arith}
@@ -22,18 +22,18 @@ use Rattle.paper.proofs.After.{after_decision}
 use Rattle.paper.proofs.Rounds.{numbered, fires_in}
 
 -- what fires is what `fired` names, whatever the thresholds
-pub fired_fires : (S : Setup) (k : Kind) (row : Row) (v : ℕ) → fired S k row ≡ some v → Fires S k row v
+pub fired_fires : (S : Setup) (k : Kind) (row : Row) (v : ℕ) → fired S k row ≡ Some v → Fires S k row v
 unfolding fired
 fired_fires S k row v = go (deciding k) refl
   where
-    go : (b : Bool) → deciding k ≡ b → cond b (smallest S.n row (λ w. passes_e S (times S.n row w))) none ≡ some v
+    go : (b : Bool) → deciding k ≡ b → cond b (smallest S.n row (λ w. passes_e S (times S.n row w))) None ≡ Some v
         → Fires S k row v
     go true d e =
         record { rule = d; enough = (smallest_some S.n row (λ w. passes_e S (times S.n row w)) v e).passes }
     go false d e = let z : ◌≡◌ {A = ℕ} 0 1 = cc in absurd (omega arith)
 
 -- where it names none, nothing fires: a value that passes E was received
-pub unfired : (S : Setup) → acceptable S ≡ true → (k : Kind) (row : Row) → fired S k row ≡ none → (v : ℕ)
+pub unfired : (S : Setup) → acceptable S ≡ true → (k : Kind) (row : Row) → fired S k row ≡ None → (v : ℕ)
     → Fires S k row v → ⊥
 unfolding fired
 unfired S ok k row e v f =
@@ -83,7 +83,7 @@ module _ (S : Setup) (default : ℕ) (ok : acceptable S ≡ true) (p : ℕ) (wit
           ∙ ap (keep undecided (suc k)) g
 
       -- the head fires for w: it is the first
-      head_first : (w : ℕ) → firing run.0 ≡ some w → FirstFiring S (x ∷ ts) p w x
+      head_first : (w : ℕ) → firing run.0 ≡ Some w → FirstFiring S (x ∷ ts) p w x
       head_first w g =
           record {
             in_run = Memᴰ.head refl;
@@ -96,7 +96,7 @@ module _ (S : Setup) (default : ℕ) (ok : acceptable S ≡ true) (p : ℕ) (wit
                 (Memᴰ.cases_cons j);
           }
 
-      fired_at : (w : ℕ) → firing run.0 ≡ some w → (u.after p).decision ≡ decided w (suc k)
+      fired_at : (w : ℕ) → firing run.0 ≡ Some w → (u.after p).decision ≡ decided w (suc k)
           → FirstAmong (x ∷ ts) v r u
       fired_at w g d' =
           let same_value : w ≡ v = cc in
@@ -107,7 +107,7 @@ module _ (S : Setup) (default : ℕ) (ok : acceptable S ≡ true) (p : ℕ) (wit
             omega (arith, numbered S default (x ∷ ts) k s run u i),
           )
 
-      later : firing run.0 ≡ none → FirstAmong ts v r u → FirstAmong (x ∷ ts) v r u
+      later : firing run.0 ≡ None → FirstAmong ts v r u → FirstAmong (x ∷ ts) v r u
       later g found = (
         found.0,
         record {
@@ -129,13 +129,13 @@ module _ (S : Setup) (default : ℕ) (ok : acceptable S ≡ true) (p : ℕ) (wit
       go : (f : Option ℕ) → firing run.0 ≡ f → ((x.after p).decision ≡ undecided → u among ts → FirstAmong ts v r u)
           → (u ≡ x) ⊎ (u among ts)
           → FirstAmong (x ∷ ts) v r u
-      go none g below (inl q) =
-          let z : ◌≡◌ {A = ℕ} 0 1 = cc (ap (λ (m : Turn). (m.after p).decision) q, after_x none g) in
+      go None g below (inl q) =
+          let z : ◌≡◌ {A = ℕ} 0 1 = cc (ap (λ (m : Turn). (m.after p).decision) q, after_x None g) in
           absurd (omega arith)
-      go none g below (inr j) = later g (below (after_x none g) j)
-      go (some w) g below (inl q) = fired_at w g (ap (λ (m : Turn). (m.after p).decision) q ∙ after_x (some w) g)
-      go (some w) g below (inr j) =
-          fired_at w g (stays ts (suc k) x.after run.1 w (suc k) (after_x (some w) g) u j)
+      go None g below (inr j) = later g (below (after_x None g) j)
+      go (Some w) g below (inl q) = fired_at w g (ap (λ (m : Turn). (m.after p).decision) q ∙ after_x (Some w) g)
+      go (Some w) g below (inr j) =
+          fired_at w g (stays ts (suc k) x.after run.1 w (suc k) (after_x (Some w) g) u j)
 
   abbrev Done : States → Type 0
   Done s = ¬ ((s p).decision ≡ undecided)
@@ -153,9 +153,9 @@ module _ (S : Setup) (default : ℕ) (ok : acceptable S ≡ true) (p : ℕ) (wit
   fires_done {k} {s} {t} st v f q = go (s p).decision (firing st) refl (sym (decision_after st) ∙ q)
     where
       go : (d : Decision) (o : Option ℕ) → firing st ≡ o → keep d (suc k) o ≡ undecided → ⊥
-      go undecided none g e =
+      go undecided None g e =
           unfired S ok (kind_of S.algorithm (suc k)) (t.heard p) g v ((fires_in S default st p v).0 f)
-      go undecided (some w) g e = let z : ◌≡◌ {A = ℕ} 0 1 = cc in omega arith
+      go undecided (Some w) g e = let z : ◌≡◌ {A = ℕ} 0 1 = cc in omega arith
       go (decided w r) o g e = let z : ◌≡◌ {A = ℕ} 0 1 = cc in omega arith
 
   done_from : (ts : List Turn) (k : ℕ) (s : States) → Rounds S default k s ts → (t u : Turn) (v : ℕ) → t among ts

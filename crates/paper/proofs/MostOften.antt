@@ -3,7 +3,7 @@
 -- it.
 use mathlib.Core.Path.{◌≡◌, refl, ap}
 use mathlib.Core.Bool.{true, false≢true}
-use mathlib.Core.Option.{Option, none, some}
+use Rattle.std.specs.Prelude.{Option, None, Some}
 use mathlib.Core.Logic.{◌↔◌}
 use Prim.Native.Nat.{ℕ, zero, suc, ◌≤◌, ◌<◌, zero-le}
 use native.Mathlib.Nat.{le_trans}
@@ -69,13 +69,13 @@ module _ (n : ℕ) (row : Row) where
           → (((u : ℕ) → Received n row u → times n row u ≤ k)
           → (v : ℕ) × Received n row v × (most_often n row v ≡ true))
           → (v : ℕ) × Received n row v × (most_often n row v ≡ true)
-      go (some v) e below =
+      go (Some v) e below =
           let l = smallest_some n row (λ u. leb (suc k) (times n row u)) v e in (
             v,
             (l.from, l.below, l.heard_there),
             (most_often_iff n row v).1 (λ u s. le_trans (top u s) (leb-true (suc k) (times n row v) l.passes)),
           )
-      go none e below = below (λ u s. lower u s (dec_le (suc k) (times n row u)))
+      go None e below = below (λ u s. lower u s (dec_le (suc k) (times n row u)))
         where
           lower : (u : ℕ) → Received n row u → Dec (suc k ≤ times n row u) → times n row u ≤ k
           lower u s (yes h) =
@@ -84,7 +84,7 @@ module _ (n : ℕ) (row : Row) where
           lower u s (no h) = omega arith
 
   -- where a value is received, one is received most often
-  pub most_often_found : (w : ℕ) → Received n row w → (v : ℕ) × (smallest n row (most_often n row) ≡ some v)
+  pub most_often_found : (w : ℕ) → Received n row w → (v : ℕ) × (smallest n row (most_often n row) ≡ Some v)
   unfolding times
   most_often_found w r =
       let (v, s, e) = bounded n (λ u s. size_le n (R row u)) w r in

@@ -5,7 +5,7 @@ use mathlib.Core.Path.{◌≡◌, refl, ap, sym, ◌∙◌, subst}
 use mathlib.Core.Bool.{Bool, true, false, cond, false≢true}
 use mathlib.Core.List.{[], ◌∷◌}
 use mathlib.Core.Logic.{◌⊎◌, inl, inr}
-use mathlib.Core.Option.{Option, none, some}
+use Rattle.std.specs.Prelude.{Option, None, Some}
 use Prim.Native.Nat.{ℕ, ◌+◌, ◌≤◌, ◌<◌}
 use native.Mathlib.Omega.{arith}
 use borrow.Author.Tests.{eqb-true, eq-eqb}
@@ -123,9 +123,9 @@ module _ (S : Setup) (default : ℕ) (ok : acceptable S ≡ true) (b : States) (
       go : (o : Option ℕ) → smallest S.n (m p) (λ w. passes_t S (times S.n (m p) w)) ≡ o
           → vote_or_else (smallest S.n (m p) (λ w. passes_t S (times S.n (m p) w))) (b p).vote ≡ val v
           → passes_t S (times S.n (m p) v) ≡ true
-      go none o d =
+      go None o d =
           let z : ◌≡◌ {A = ℕ} 0 1 = cc (ap (λ x. vote_or_else x (b p).vote) o, prepared p h) in absurd (omega arith)
-      go (some w) o d =
+      go (Some w) o d =
           let same_value : w ≡ v = cc (ap (λ x. vote_or_else x (b p).vote) o) in
           subst (λ x. passes_t S (times S.n (m p) x) ≡ true) same_value
           (smallest_some S.n (m p) (λ x. passes_t S (times S.n (m p) x)) w o).passes
@@ -255,8 +255,8 @@ module _ (S : Setup) (default : ℕ) (ok : acceptable S ≡ true) (b : States) (
     where
       go : (o : Option ℕ) → smallest S.n (m q) (λ w. vouched S (times S.n (m q) w)) ≡ o
           → ((a q).estimate ≡ v) ⊎ ((a q).estimate ≡ default)
-      go none f = inr (t.estimates q h ∙ ap (λ x. or_else x default) f)
-      go (some w) f =
+      go None f = inr (t.estimates q h ∙ ap (λ x. or_else x default) f)
+      go (Some w) f =
           let vouches = (smallest_some S.n (m q) (λ x. vouched S (times S.n (m q) x)) w f).passes in
           let voter = vouched_true S (m q) (λ x. (b x).vote) (t.few q h) w vouches in
           inl (t.estimates q h ∙ ap (λ x. or_else x default) f

@@ -4,7 +4,7 @@
 -- their counts add to n at most.
 use mathlib.Core.Path.{◌≡◌, refl}
 use mathlib.Core.Bool.{Bool, true, false, cond, false≢true}
-use mathlib.Core.Option.{Option, none, some}
+use Rattle.std.specs.Prelude.{Option, None, Some}
 use mathlib.Core.Logic.{◌↔◌}
 use Prim.Native.Nat.{ℕ, ◌≤◌, ◌<◌}
 use native.Mathlib.Nat.{le_of_eq}
@@ -31,7 +31,7 @@ module _ (n : ℕ) (row : Row) (pass : ℕ → Bool) (positive : (k : ℕ) → p
   received w h = (came n row w).0 (positive (times n row w) h)
 
   -- what `smallest` answers
-  pub lowest_iff : (v : ℕ) → (smallest n row (λ u. pass (times n row u)) ≡ some v) ↔ Lowest n row pass v
+  pub lowest_iff : (v : ℕ) → (smallest n row (λ u. pass (times n row u)) ≡ Some v) ↔ Lowest n row pass v
   lowest_iff v = (
     λ e.
         let l = smallest_some n row passing v e in
@@ -49,17 +49,17 @@ module _ (n : ℕ) (row : Row) (pass : ℕ → Bool) (positive : (k : ℕ) → p
   )
 
   pub lowest_found : (w : ℕ) → pass (times n row w) ≡ true
-      → (v : ℕ) × (smallest n row (λ u. pass (times n row u)) ≡ some v)
+      → (v : ℕ) × (smallest n row (λ u. pass (times n row u)) ≡ Some v)
   lowest_found w h = let r = received w h in smallest_found n row passing r.0 w r.1 r.2 h
 
 -- where no value passes there is no answer, whatever the test
 pub none_passes : (n : ℕ) (row : Row) (pass : ℕ → Bool) → ((w : ℕ) → pass (times n row w) ≡ false)
-    → smallest n row (λ u. pass (times n row u)) ≡ none
+    → smallest n row (λ u. pass (times n row u)) ≡ None
 none_passes n row pass fails = go (smallest n row (λ u. pass (times n row u))) refl
   where
-    go : (a : Option ℕ) → smallest n row (λ u. pass (times n row u)) ≡ a → a ≡ none
-    go none e = refl
-    go (some v) e =
+    go : (a : Option ℕ) → smallest n row (λ u. pass (times n row u)) ≡ a → a ≡ None
+    go None e = refl
+    go (Some v) e =
         let z : ◌≡◌ {A = ℕ} 0 1 = cc ((smallest_some n row (λ u. pass (times n row u)) v e).passes, fails v) in
         absurd (omega arith)
 
@@ -71,8 +71,8 @@ pub record OnePasses (n : ℕ) (row : Row) (pass : ℕ → Bool) : Type 0 where
 
 -- an answer, where it passes
 abbrev pub if_passing : ℕ → Row → (ℕ → Bool) → Option ℕ → Option ℕ
-if_passing n row pass none = none
-if_passing n row pass (some v) = cond (pass (times n row v)) (some v) none
+if_passing n row pass None = None
+if_passing n row pass (Some v) = cond (pass (times n row v)) (Some v) None
 
 module _ (n : ℕ) (row : Row) (pass : ℕ → Bool) (one : OnePasses n row pass) where
   pub zero_fails : pass 0 ≡ false
@@ -83,7 +83,7 @@ module _ (n : ℕ) (row : Row) (pass : ℕ → Bool) (one : OnePasses n row pass
       go false e = refl
 
   -- the answer is the one that passes
-  pub passing_iff : (v : ℕ) → (smallest n row (λ u. pass (times n row u)) ≡ some v) ↔ (pass (times n row v) ≡ true)
+  pub passing_iff : (v : ℕ) → (smallest n row (λ u. pass (times n row u)) ≡ Some v) ↔ (pass (times n row v) ≡ true)
   passing_iff v =
       let iff = lowest_iff n row pass one.positive v in
       (λ e. (iff.0 e).enough, λ h. iff.1 (record { enough = h; first = λ w t. le_of_eq (one.single v w h t) }))
@@ -93,7 +93,7 @@ module _ (n : ℕ) (row : Row) (pass : ℕ → Bool) (one : OnePasses n row pass
       ≡ if_passing n row pass (smallest n row (most_often n row))
   passing_is_most = go (smallest n row (most_often n row)) refl
     where
-      nothing : smallest n row (most_often n row) ≡ none → (w : ℕ) (b : Bool) → pass (times n row w) ≡ b → b ≡ false
+      nothing : smallest n row (most_often n row) ≡ None → (w : ℕ) (b : Bool) → pass (times n row w) ≡ b → b ≡ false
       nothing e w true h =
           let (v, found) = most_often_found n row w ((came n row w).0 (one.positive (times n row w) h)) in
           let z : ◌≡◌ {A = ℕ} 0 1 = cc in absurd (omega arith)
@@ -101,8 +101,8 @@ module _ (n : ℕ) (row : Row) (pass : ℕ → Bool) (one : OnePasses n row pass
 
       go : (a : Option ℕ) → smallest n row (most_often n row) ≡ a
           → smallest n row (λ u. pass (times n row u)) ≡ if_passing n row pass a
-      go none e = none_passes n row pass (λ w. nothing e w (pass (times n row w)) refl)
-      go (some v) e = pick (pass (times n row v)) refl
+      go None e = none_passes n row pass (λ w. nothing e w (pass (times n row w)) refl)
+      go (Some v) e = pick (pass (times n row v)) refl
         where
           fewer : (w : ℕ) → times n row w ≤ times n row v
           fewer = most_often_all n row v (smallest_some n row (most_often n row) v e).passes
@@ -112,7 +112,7 @@ module _ (n : ℕ) (row : Row) (pass : ℕ → Bool) (one : OnePasses n row pass
           fails h w false t = refl
 
           pick : (b : Bool) → pass (times n row v) ≡ b
-              → smallest n row (λ u. pass (times n row u)) ≡ cond b (some v) none
+              → smallest n row (λ u. pass (times n row u)) ≡ cond b (Some v) None
           pick true h = (passing_iff v).1 h
           pick false h = none_passes n row pass (λ w. fails h w (pass (times n row w)) refl)
 

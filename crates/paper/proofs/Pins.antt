@@ -2,7 +2,8 @@
 -- `smallest` and `most_often` find is proved already, and that one value at most passes T, or E (Passing).
 use mathlib.Core.Path.{◌≡◌, refl, sym, ap, ap₂, ◌∙◌, fun_ext}
 use mathlib.Core.Bool.{◌&&◌, Bool, true, false, cond, false≢true}
-use mathlib.Core.Option.{Option, none, some, none-ne-some, some-ne-none, some-injective}
+use Rattle.std.specs.Prelude.{Option, None, Some}
+use Rattle.std.proofs.lemmas.Option.{none-some, same_Some}
 use mathlib.Core.Logic.{◌↔◌, ◌≢◌, ◌⊎◌, inl, inr, ⊎_elim}
 use Prim.Native.Nat.{ℕ, zero, suc, ◌≤◌, ◌<◌}
 use native.Mathlib.Nat.{le_refl}
@@ -28,7 +29,7 @@ pub record Commonest (n : ℕ) (row : Row) (v : ℕ) : Type 0 where
   pub oftenest : (w : ℕ) → times n row w ≤ times n row v
   pub first : (w : ℕ) → times n row w ≡ times n row v → v ≤ w
 
-commonest : (n : ℕ) (row : Row) (v : ℕ) → smallest n row (most_often n row) ≡ some v → Commonest n row v
+commonest : (n : ℕ) (row : Row) (v : ℕ) → smallest n row (most_often n row) ≡ Some v → Commonest n row v
 commonest n row v e =
     let l : Least n row (most_often n row) v = smallest_some n row (most_often n row) v e in
     let r : Received n row v = (l.from, l.below, l.heard_there) in
@@ -101,9 +102,9 @@ u_votes S ok own s row v blank =
     let iff = passing_iff S.n row (passes_t S) (one_passes_t S row ok own) v in
     (λ e. iff.0 (go (smallest S.n row (λ u. passes_t S (times S.n row u))) e), λ more. rw (iff.1 more))
   where
-    go : (a : Option ℕ) → vote_or_else a s.vote ≡ val v → a ≡ some v
-    go none e = cc
-    go (some w) e = cc
+    go : (a : Option ℕ) → vote_or_else a s.vote ≡ val v → a ≡ Some v
+    go None e = cc
+    go (Some w) e = cc
 
 -- and is "?" after every vote round
 pub u_vote_cleared : (S : Setup) (s : Station) (row : Row) → next_vote S vote s row ≡ query
@@ -117,7 +118,7 @@ fires_iff S k row v = (λ f. (f.rule, f.enough), λ p. record { rule = p.0; enou
 
 -- and `fired` names that v
 pub fired_iff : (S : Setup) → acceptable S ≡ true → (k : Kind) (row : Row) (v : ℕ)
-    → (fired S k row ≡ some v) ↔ Fires S k row v
+    → (fired S k row ≡ Some v) ↔ Fires S k row v
 unfolding fired
 fired_iff S ok k row v = (
   fired_fires S k row v,
@@ -127,19 +128,19 @@ fired_iff S ok k row v = (
 
 -- a row with no value in it: nothing fires, no vote is cast, and A's estimate stays
 module _ (S : Setup) (row : Row) (no_value : (w : ℕ) → ¬ Received S.n row w) where
-  finds_nothing : (test : ℕ → Bool) → smallest S.n row test ≡ none
+  finds_nothing : (test : ℕ → Bool) → smallest S.n row test ≡ None
   finds_nothing test = go (smallest S.n row test) refl
     where
-      go : (a : Option ℕ) → smallest S.n row test ≡ a → a ≡ none
-      go none e = refl
-      go (some v) e =
+      go : (a : Option ℕ) → smallest S.n row test ≡ a → a ≡ None
+      go None e = refl
+      go (Some v) e =
           let l = smallest_some S.n row test v e in absurd (no_value v (l.from, l.below, l.heard_there))
 
-  pub no_value_no_firing : (k : Kind) → fired S k row ≡ none
+  pub no_value_no_firing : (k : Kind) → fired S k row ≡ None
   unfolding fired over_e
   no_value_no_firing k = go (deciding k)
     where
-      go : (b : Bool) → cond b (over_e S row) none ≡ none
+      go : (b : Bool) → cond b (over_e S row) None ≡ None
       go true = finds_nothing _
       go false = refl
 
@@ -164,8 +165,8 @@ unfolding or_else
 found_or n row test x y e = go (smallest n row test) refl e
   where
     go : (a : Option ℕ) → smallest n row test ≡ a → or_else a x ≡ y → Received n row y ⊎ (y ≡ x)
-    go none f e = inr (sym e)
-    go (some v) f e =
+    go None f e = inr (sym e)
+    go (Some v) f e =
         let l = smallest_some n row test v f in
         inl (l.from, l.below, l.heard_there ∙ ap (λ u. heard (val u)) e)
 
@@ -184,9 +185,9 @@ estimate_from S default vote s row x e = ⊎_elim inl (λ kept. inr (inr kept)) 
 
 -- the value in a cell, if it has one
 unfoldable pub value_in : Cell → Option ℕ
-value_in lost = none
-value_in (heard query) = none
-value_in (heard (val v)) = some v
+value_in lost = None
+value_in (heard query) = None
+value_in (heard (val v)) = Some v
 
 -- the rows have the same values in the same places; they may differ in where one has lost and the other "?"
 abbrev pub Alike : ℕ → Row → Row → Type 0
@@ -199,11 +200,11 @@ by_value f e lost lost p = refl
 by_value f e lost (heard query) p = e
 by_value f e (heard query) lost p = sym e
 by_value f e (heard query) (heard query) p = refl
-by_value f e lost (heard (val w)) p = absurd (none-ne-some w p)
-by_value f e (heard query) (heard (val w)) p = absurd (none-ne-some w p)
-by_value f e (heard (val v)) lost p = absurd (some-ne-none v p)
-by_value f e (heard (val v)) (heard query) p = absurd (some-ne-none v p)
-by_value f e (heard (val v)) (heard (val w)) p = ap (λ u. f (heard (val u))) (some-injective v w p)
+by_value f e lost (heard (val w)) p = absurd (none-some w p)
+by_value f e (heard query) (heard (val w)) p = absurd (none-some w p)
+by_value f e (heard (val v)) lost p = absurd (none-some v (sym p))
+by_value f e (heard (val v)) (heard query) p = absurd (none-some v (sym p))
+by_value f e (heard (val v)) (heard (val w)) p = ap (λ u. f (heard (val u))) (same_Some v w p)
 
 -- what starts the same, and stays the same from each station below n to the next, is the same at n
 up_to : {X : Type 0} (n : ℕ) (f g : ℕ → X) → f 0 ≡ g 0 → All n (λ q. f q ≡ g q → f (suc q) ≡ g (suc q)) → f n ≡ g n
@@ -261,7 +262,7 @@ module _ (S : Setup) (row other : Row) (alike : Alike S.n row other) where
 
   pub fired_alike : (k : Kind) → fired S k row ≡ fired S k other
   unfolding fired
-  fired_alike k = ap (λ a. cond (deciding k) a none) (passing_alike (passes_e S))
+  fired_alike k = ap (λ a. cond (deciding k) a None) (passing_alike (passes_e S))
 
   pub next_estimate_alike : (default : ℕ) (k : Kind) (s : Station)
       → (k ≡ update → size S.n (HO row) ≡ size S.n (HO other))

@@ -4,7 +4,7 @@
 use mathlib.Core.Path.{◌≡◌, refl, ap, sym}
 use mathlib.Core.Bool.{true}
 use mathlib.Core.Logic.{◌≢◌}
-use mathlib.Core.Option.{some}
+use Rattle.std.specs.Prelude.{Some}
 use Prim.Native.Nat.{ℕ, zero, suc, ◌+◌, ◌*◌, ◌≤◌, ◌<◌}
 use native.Mathlib.Nat.{le_of_eq}
 use native.Mathlib.Decide.{ℕ_discrete}
@@ -59,7 +59,7 @@ module _ (S : Setup) (row : Row) (sent : ℕ → Message) (few : size S.n (AHO r
   -- Lemma 4: where v is held by so many, whoever hears more than T takes v
   pub takes_most : acceptable S ≡ true → S.algorithm ≡ A → (v : ℕ)
       → passes_e S (size S.n (Q sent v) + S.alpha) ≡ true
-      → passes_t S (size S.n (HO row)) ≡ true → smallest S.n row (most_often S.n row) ≡ some v
+      → passes_t S (size S.n (HO row)) ≡ true → smallest S.n row (most_often S.n row) ≡ Some v
   unfolding times
   takes_most ok own v held enough =
       smallest_is S.n row (most_often S.n row) v
@@ -98,7 +98,7 @@ module _ (S : Setup) (row : Row) (sent : ℕ → Message) (few : size S.n (AHO r
   pub adopts : acceptable S ≡ true → S.algorithm ≡ U → (v : ℕ) → OneValue S.n sent
       → passes_e S (size S.n (Q sent v) + S.alpha) ≡ true
       → passes_bound S (size S.n (SHO row sent)) ≡ true
-      → smallest S.n row (λ w. vouched S (times S.n row w)) ≡ some v
+      → smallest S.n row (λ w. vouched S (times S.n row w)) ≡ Some v
   unfolding times
   adopts ok own v single held safe =
       smallest_is S.n row (λ w. vouched S (times S.n row w)) v
@@ -131,7 +131,7 @@ module _ (S : Setup) (row : Row) (sent : ℕ → Message) (few : size S.n (AHO r
 -- under U, where everybody ought to send v, the vote goes to v
 pub votes_for : (S : Setup) (row : Row) → acceptable S ≡ true → S.algorithm ≡ U → (sent : ℕ → Message) (v : ℕ)
     → size S.n (Q sent v) ≡ S.n → passes_bound S (size S.n (SHO row sent)) ≡ true
-    → smallest S.n row (λ w. passes_t S (times S.n row w)) ≡ some v
+    → smallest S.n row (λ w. passes_t S (times S.n row w)) ≡ Some v
 unfolding times
 votes_for S row ok own sent v all safe =
     (passing_iff S.n row (passes_t S) (one_passes_t S row ok own) v).1

@@ -2,7 +2,7 @@
 -- the test, and the smaller of two such values is kept.
 use mathlib.Core.Path.{◌≡◌, refl, ap, subst}
 use mathlib.Core.Bool.{Bool, true, false, cond}
-use mathlib.Core.Option.{Option, none, some}
+use Rattle.std.specs.Prelude.{Option, None, Some}
 use mathlib.Core.Logic.{◌⊎◌, inl, inr}
 use Prim.Native.Nat.{ℕ, zero, suc, ◌≤◌, ◌<◌, min}
 use native.Mathlib.Nat.{le_refl, le_of_suc-le-suc, eq-or-lt_of_le, min-eq_left, min-eq_right, le_antisymm}
@@ -21,19 +21,19 @@ pub record Least (n : ℕ) (row : Row) (test : ℕ → Bool) (v : ℕ) : Type 0 
 
 -- what an answer says of the values that pass, and of where it comes from
 abbrev AtMost : Option ℕ → ℕ → Type 0
-AtMost none w = ⊥
-AtMost (some v) w = v ≤ w
+AtMost None w = ⊥
+AtMost (Some v) w = v ≤ w
 
 abbrev PassesIn : (ℕ → Bool) → Cell → ℕ → Type 0
 PassesIn test c v = (c ≡ heard (val v)) × (test v ≡ true)
 
 abbrev Source : ℕ → Row → (ℕ → Bool) → Option ℕ → Type 0
-Source n row test none = Unit {0}
-Source n row test (some v) = (q : ℕ) × (q < n) × PassesIn test (row q) v
+Source n row test None = Unit {0}
+Source n row test (Some v) = (q : ℕ) × (q < n) × PassesIn test (row q) v
 
 abbrev SourceCell : (ℕ → Bool) → Cell → Option ℕ → Type 0
-SourceCell test c none = Unit {0}
-SourceCell test c (some v) = PassesIn test c v
+SourceCell test c None = Unit {0}
+SourceCell test c (Some v) = PassesIn test c v
 
 module _ (test : ℕ → Bool) where
   cell_source : (c : Cell) → SourceCell test c (candidate test c)
@@ -42,7 +42,7 @@ module _ (test : ℕ → Bool) where
   cell_source (heard query) = tt
   cell_source (heard (val v)) = go (test v) refl
     where
-      go : (b : Bool) → test v ≡ b → SourceCell test (heard (val v)) (cond b (some v) none)
+      go : (b : Bool) → test v ≡ b → SourceCell test (heard (val v)) (cond b (Some v) None)
       go true e = (refl, e)
       go false e = tt
 
@@ -55,25 +55,25 @@ joined_source : (test : ℕ → Bool) (n : ℕ) (row : Row) (a b : Option ℕ) �
     → SourceCell test (row n) b
     → Source (suc n) row test (smaller a b)
 unfolding smaller
-joined_source test n row none none s c = tt
-joined_source test n row none (some w) s c = (n, le_refl (suc n), c)
-joined_source test n row (some v) none s c = (s.0, omega (arith, s.1), s.2)
-joined_source test n row (some v) (some w) s c = go (dec_le v w)
+joined_source test n row None None s c = tt
+joined_source test n row None (Some w) s c = (n, le_refl (suc n), c)
+joined_source test n row (Some v) None s c = (s.0, omega (arith, s.1), s.2)
+joined_source test n row (Some v) (Some w) s c = go (dec_le v w)
   where
-    go : Dec (v ≤ w) → Source (suc n) row test (some (min v w))
+    go : Dec (v ≤ w) → Source (suc n) row test (Some (min v w))
     go (yes h) = rw min-eq_left (s.0, omega (arith, s.1), s.2)
     go (no h) = let h' : w ≤ v = omega arith in rw min-eq_right (n, le_refl (suc n), c)
 
 joined_least : (a b : Option ℕ) (w : ℕ) → AtMost a w ⊎ AtMost b w → AtMost (smaller a b) w
 unfolding smaller
-joined_least none none w (inl h) = h
-joined_least none none w (inr h) = h
-joined_least none (some y) w (inl h) = absurd h
-joined_least none (some y) w (inr h) = h
-joined_least (some x) none w (inl h) = h
-joined_least (some x) none w (inr h) = absurd h
-joined_least (some x) (some y) w (inl h) = omega arith
-joined_least (some x) (some y) w (inr h) = omega arith
+joined_least None None w (inl h) = h
+joined_least None None w (inr h) = h
+joined_least None (Some y) w (inl h) = absurd h
+joined_least None (Some y) w (inr h) = h
+joined_least (Some x) None w (inl h) = h
+joined_least (Some x) None w (inr h) = absurd h
+joined_least (Some x) (Some y) w (inl h) = omega arith
+joined_least (Some x) (Some y) w (inr h) = omega arith
 
 module _ (row : Row) (test : ℕ → Bool) where
   source : (n : ℕ) → Source n row test (smallest n row test)
@@ -95,9 +95,9 @@ module _ (row : Row) (test : ℕ → Bool) where
       go (inr l) earlier = inl (earlier l)
 
 -- the answer is the least received value that passes
-pub smallest_some : (n : ℕ) (row : Row) (test : ℕ → Bool) (v : ℕ) → smallest n row test ≡ some v → Least n row test v
+pub smallest_some : (n : ℕ) (row : Row) (test : ℕ → Bool) (v : ℕ) → smallest n row test ≡ Some v → Least n row test v
 smallest_some n row test v e =
-    let s : Source n row test (some v) = rw e at (source row test n) in
+    let s : Source n row test (Some v) = rw e at (source row test n) in
     record {
       from = s.0;
       below = s.1;
@@ -107,27 +107,27 @@ smallest_some n row test v e =
     }
 
 -- no answer: no received value passes
-pub smallest_none : (n : ℕ) (row : Row) (test : ℕ → Bool) → smallest n row test ≡ none → (q w : ℕ) → q < n
+pub smallest_none : (n : ℕ) (row : Row) (test : ℕ → Bool) → smallest n row test ≡ None → (q w : ℕ) → q < n
     → row q ≡ heard (val w)
     → test w ≡ true → ⊥
 smallest_none n row test e q w h f t = subst (λ a. AtMost a w) e (at_most row test n q w h f t)
 
 -- there is one least value at most, and where there is one the answer is it
-pub smallest_is : (n : ℕ) (row : Row) (test : ℕ → Bool) (v : ℕ) → Least n row test v → smallest n row test ≡ some v
+pub smallest_is : (n : ℕ) (row : Row) (test : ℕ → Bool) (v : ℕ) → Least n row test v → smallest n row test ≡ Some v
 smallest_is n row test v l = go (smallest n row test) refl
   where
-    go : (a : Option ℕ) → smallest n row test ≡ a → a ≡ some v
-    go none e = absurd (smallest_none n row test e l.from v l.below l.heard_there l.passes)
-    go (some w) e =
+    go : (a : Option ℕ) → smallest n row test ≡ a → a ≡ Some v
+    go None e = absurd (smallest_none n row test e l.from v l.below l.heard_there l.passes)
+    go (Some w) e =
         let m : Least n row test w = smallest_some n row test w e in
-        ap {B = Option ℕ} some (le_antisymm (m.least l.from v l.below l.heard_there l.passes)
+        ap {B = Option ℕ} Some (le_antisymm (m.least l.from v l.below l.heard_there l.passes)
         (l.least m.from w m.below m.heard_there m.passes))
 
 -- where a received value passes there is an answer
 pub smallest_found : (n : ℕ) (row : Row) (test : ℕ → Bool) (q w : ℕ) → q < n → row q ≡ heard (val w) → test w ≡ true
-    → (v : ℕ) × (smallest n row test ≡ some v)
+    → (v : ℕ) × (smallest n row test ≡ Some v)
 smallest_found n row test q w h f t = go (smallest n row test) refl
   where
-    go : (a : Option ℕ) → smallest n row test ≡ a → (v : ℕ) × (smallest n row test ≡ some v)
-    go none e = absurd (smallest_none n row test e q w h f t)
-    go (some v) e = (v, e)
+    go : (a : Option ℕ) → smallest n row test ≡ a → (v : ℕ) × (smallest n row test ≡ Some v)
+    go None e = absurd (smallest_none n row test e q w h f t)
+    go (Some v) e = (v, e)

@@ -2,7 +2,7 @@
 -- place below. What becomes of a station is a function of the setup, the default, the round's number, its own state and
 -- its own row (rule 9.12).
 use Rattle.std.specs.Prelude.{◌≡◌, Bool, true, false, cond, ℕ, zero, suc, ◌%◌, min, eqb, leb}
-use Rattle.std.proofs.Math.Option.{Option, none, some}
+use Rattle.std.specs.Prelude.{Option, None, Some}
 use Rattle.paper.specs.Stations.{size, every}
 use Rattle.paper.specs.Heard.{Message, val, query, Cell, lost, heard, Row, HO, R}
 use Rattle.paper.specs.Setup.{Algorithm, A, U, Setup, passes_t, passes_e, vouched}
@@ -39,19 +39,19 @@ times n row v = size n (R row v)
 
 -- the value in a cell, where it has one that passes the test
 unfoldable pub candidate : (ℕ → Bool) → Cell → Option ℕ
-candidate test lost = none
-candidate test (heard query) = none
-candidate test (heard (val v)) = cond (test v) (some v) none
+candidate test lost = None
+candidate test (heard query) = None
+candidate test (heard (val v)) = cond (test v) (Some v) None
 
 unfoldable pub smaller : Option ℕ → Option ℕ → Option ℕ
-smaller none w = w
-smaller (some v) none = some v
-smaller (some v) (some w) = some (min v w)
+smaller None w = w
+smaller (Some v) None = Some v
+smaller (Some v) (Some w) = Some (min v w)
 
 -- the smallest received value that passes the test, if there is one
 unfoldable pub smallest : ℕ → Row → (ℕ → Bool) → Option ℕ
 unfolding candidate smaller
-smallest zero row test = none
+smallest zero row test = None
 smallest (suc n) row test = smaller (smallest n row test) (candidate test (row n))
 
 -- the value in a cell, if any, came no more than k times
@@ -67,12 +67,12 @@ unfolding every no_oftener times
 most_often n row v = every n (λ q. no_oftener n row (times n row v) (row q))
 
 unfoldable pub or_else : Option ℕ → ℕ → ℕ
-or_else none x = x
-or_else (some v) x = v
+or_else None x = x
+or_else (Some v) x = v
 
 unfoldable pub vote_or_else : Option ℕ → Message → Message
-vote_or_else none m = m
-vote_or_else (some v) m = val v
+vote_or_else None m = m
+vote_or_else (Some v) m = val v
 
 -- what a round does: the estimate and the vote that it leaves, and the value that it decides, if any
 pub record Deeds : Type 0 where
@@ -110,7 +110,7 @@ value_round S s row =
       -- lines 8 and 9: the value received more than T times; at most one is (Lemma 8), so that the smallest is that one
       vote = vote_or_else (smallest S.n row (λ v. passes_t S (times S.n row v))) s.vote;
       -- and none decides
-      decides = none;
+      decides = None;
     }
 
 -- Algorithm 2, round 2 phi: a vote round (rules 9.6 to 9.9)
@@ -135,8 +135,8 @@ deeds S default vote s row = vote_round S default row
 
 -- the first decision is kept with its round; a later firing doesn't change it (rule 9.10)
 unfoldable pub keep : Decision → ℕ → Option ℕ → Decision
-keep undecided r none = undecided
-keep undecided r (some v) = decided v r
+keep undecided r None = undecided
+keep undecided r (Some v) = decided v r
 keep (decided v r₀) r f = decided v r₀
 
 -- what round r makes of a station
@@ -171,4 +171,4 @@ pub record Fires (S : Setup) (k : Kind) (row : Row) (v : ℕ) : Type 0 where
 -- the value for which it fires, if any
 unfoldable pub fired : Setup → Kind → Row → Option ℕ
 unfolding deciding over_e
-fired S k row = cond (deciding k) (over_e S row) none
+fired S k row = cond (deciding k) (over_e S row) None

@@ -5,7 +5,7 @@ use mathlib.Core.Bool.{Bool, true, false, cond}
 use mathlib.Core.List.{List, [], ◌++◌}
 use Prim.Native.Nat.{ℕ, ◌*◌}
 use lib.ListN.{length}
-use Rattle.run.specs.declared.Reply.TheVariants.{Accepted, Rules}
+use Rattle.run.specs.Reply.{Accepted, Rules}
 use Rattle.run.specs.declared.Run.{Run}
 use Rattle.run.specs.Reply.{is_accepted}
 use Rattle.run.specs.Run.{sound}

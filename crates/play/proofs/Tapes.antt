@@ -4,24 +4,25 @@
 use mathlib.Core.Path.{◌≡◌, refl, ap, ap₂, sym, ◌∙◌}
 use mathlib.Core.Bool.{Bool, true, false}
 use mathlib.Core.List.{List, [], ◌∷◌, ◌++◌}
-use Prim.Native.Nat.{ℕ, ◌+◌, ◌-◌, ◌*◌, min, ◌≤◌, ◌<◌}
+use Prim.Native.Nat.{ℕ, ◌+◌, ◌*◌, min, ◌≤◌, ◌<◌}
 use native.Mathlib.Nat.{mul-le-mul}
 use native.Mathlib.Omega.{arith}
 use lib.Dec.{eqb, leb, ltb}
-use lib.ListN.{length, take, drop, length-take, length-drop, drop_of_length-le}
+use lib.ListN.{length, take, drop, length-drop, drop_of_length-le}
 use lib.Seq.{take_all, take-length, drop-length}
 use borrow.Author.Tests.{leb-true, leb-false, eqb-true}
 use Rattle.paper.specs.Rules.{Kind}
 use Rattle.paper.proofs.OneRound.{follows}
 use Rattle.run.specs.Record.{record_bytes}
-use Rattle.run.specs.declared.Reply.{Reply}
-use Rattle.run.specs.declared.Reply.TheVariants.{Accepted, Length, Full, Rules}
+use Rattle.run.specs.Reply.{Accepted, Length, Full, Rules}
 use Rattle.limits.specs.declared.Setup.{Setup}
 use Rattle.run.specs.declared.Run.{Run}
 use Rattle.run.specs.Keeps.{Keeps}
-use Rattle.run.specs.Reply.{number_of, is_accepted, or_refuse}
+use Rattle.run.specs.Reply.{is_accepted, or_refuse}
 use Rattle.run.specs.Run.{stations, most_rounds, sound}
-use Rattle.run.proofs.Asked.{refuses, accepts}
+use Rattle.std.specs.Prelude.{Err}
+use Rattle.run.specs.declared.reply.Refusal.{Refusal}
+use Rattle.run.proofs.Asked.{stops}
 use Rattle.run.proofs.Replies.{then_accepted, or_refuse_accepted}
 use Rattle.round.specs.Reading.{round_length}
 use Rattle.judge.specs.declared.Stepped.{Stepped}
@@ -74,10 +75,6 @@ first_part k bs = at_least (λ i. take i bs) k (length bs) (λ l. take-length bs
 
 pub after_first : (k : ℕ) (bs : List ℕ) → drop (min k (length bs)) bs ≡ drop k bs
 after_first k bs = at_least (λ i. drop i bs) k (length bs) (λ l. drop-length bs ∙ sym (drop_of_length-le bs l))
-
--- &bs[k..]
-pub whole_rest : (k : ℕ) (bs : List ℕ) → take (length bs - k) (drop k bs) ≡ drop k bs
-whole_rest k bs = take_all (length bs - k) (drop k bs) (omega (arith, length-drop k bs))
 
 -- nothing is left
 pub no_rounds : (run : Run) (bs : List ℕ) → length bs ≡ 0 → rounds_of run bs ≡ []
@@ -132,21 +129,18 @@ module _ {run : Run} {bs : List ℕ} {k : ℕ} {s : Stepped} (at : Stepping run 
   alone : take 1 (rounds_of run bs) ≡ take k bs ∷ []
   alone = rw (at.size, first_part (size_of run) bs) (cut_first (size_of run) bs at.some)
 
-  -- where the reply's number, which the code asks for, is not 0
-  pub refused_alone : {m : ℕ} → m ≡ number_of s.reply → (m ≡ 0 → ⊥)
-      → ended run s.reply ≡ take_rounds run (take 1 (rounds_of run bs))
-  refused_alone told not-zero =
-      let e = refuses {r = s.reply} {s = s.reply} refl told not-zero in
-      rw (alone, at.stepped) (sym (rounds_stop run (take k bs) [] (rw at.stepped at e)))
+  -- where it is refused
+  pub refused_alone : {e : Refusal} → s.reply ≡ Err e → ended run (Err e) ≡ take_rounds run (take 1 (rounds_of run bs))
+  refused_alone {e = e} told =
+      let no = stops {s = s.reply} (sym told) in
+      rw (alone, ← told, at.stepped) (sym (rounds_stop run (take k bs) [] (rw at.stepped at no)))
 
-  -- and where it is
-  pub accepted_alone : {m : ℕ} → m ≡ number_of s.reply → m ≡ 0
-      → record { run = s.run; reply = s.reply; rounds = 1 } ≡ take_rounds run (take 1 (rounds_of run bs))
-  accepted_alone told zero =
-      let e : s.reply ≡ Accepted = accepts {r = s.reply} {s = s.reply} refl told zero in
-      let was : is_accepted (step_of run (take k bs)).reply ≡ true = rw at.stepped at (ap is_accepted e) in
-      ap₂ (λ (x : Run) (r : Reply). record { run = x; reply = r; rounds = 1 })
-      (ap (λ (x : Stepped). x.run) at.stepped) e
+  -- and where it is not
+  pub accepted_alone : s.reply ≡ Accepted
+      → record { run = s.run; reply = Accepted; rounds = 1 } ≡ take_rounds run (take 1 (rounds_of run bs))
+  accepted_alone told =
+      let was : is_accepted (step_of run (take k bs)).reply ≡ true = rw at.stepped at (ap is_accepted told) in
+      ap (λ (x : Stepped). record { run = x.run; reply = Accepted; rounds = 1 }) at.stepped
       ∙ sym (ap (more 1) (rounds_none (step_of run (take k bs)).run))
       ∙ sym (rounds_on run (take k bs) [] was) ∙ ap (take_rounds run) (sym alone)
 
@@ -159,13 +153,17 @@ pub first_is : (kind : Kind) (run : Run) (bs : List ℕ) {a : Played}
     → Awaits kind run → a ≡ take_rounds run (take 1 (rounds_of run bs)) → First kind run bs a
 first_is kind run bs at told = record { awaits = at; taken = told }
 
+-- an accepted round counts
+pub counts : ◌≡◌ {A = ℕ} 1 0 → ⊥
+counts z = omega arith
+
 module _ {kind : Kind} {run : Run} {bs : List ℕ} {a : Played} (at : First kind run bs a) where
   -- where it does not count, there are no others
-  pub stops : a.rounds ≡ 0 → a ≡ take_tape run bs
-  stops z = at.taken ∙ first_all run (rounds_of run bs) (ap (λ (x : Played). x.rounds) (sym at.taken) ∙ z)
+  pub none_follow : a.rounds ≡ 0 → a ≡ take_tape run bs
+  none_follow z = at.taken ∙ first_all run (rounds_of run bs) (ap (λ (x : Played). x.rounds) (sym at.taken) ∙ z)
 
   -- where it counts
-  module _ (counts : a.rounds ≡ 0 → ⊥) where
+  module _ (counted_in : a.rounds ≡ 0 → ⊥) where
     abbrev first : List ℕ
     first = take (size_of run) bs
 
@@ -176,13 +174,13 @@ module _ {kind : Kind} {run : Run} {bs : List ℕ} {a : Played} (at : First kind
     long = length_some run.setup.n at.awaits.keeps.setup.n_from
 
     some : length bs ≡ 0 → ⊥
-    some z = counts (ap (λ (x : Played). x.rounds) (at.taken ∙ nothing_first run bs z))
+    some z = counted_in (ap (λ (x : Played). x.rounds) (at.taken ∙ nothing_first run bs z))
 
     one : a ≡ take_rounds run (first ∷ [])
     one = at.taken ∙ ap (take_rounds run) (cut_first (size_of run) bs some)
 
     was : is_accepted (step_of run first).reply ≡ true
-    was = first_accepted run first (λ z. counts (ap (λ (x : Played). x.rounds) one ∙ z))
+    was = first_accepted run first (λ z. counted_in (ap (λ (x : Played). x.rounds) one ∙ z))
 
     answered : a ≡ more 1 (ended next Accepted)
     answered = one ∙ rounds_on run first [] was ∙ ap (more 1) (rounds_none next)
@@ -206,27 +204,22 @@ module _ {kind : Kind} {run : Run} {bs : List ℕ} {a : Played} (at : First kind
         }
 
     -- the rest begins after its bytes, and is shorter
-    module _ {k : ℕ} (size : k ≡ size_of a.run) where
-      pub whole : k ≤ length bs
-      whole = omega (arith, length_accepted run first was, length-take (size_of run) bs, size, same_size)
+    module _ {rest : List ℕ} (behind : rest ≡ drop (size_of run) bs) where
+      pub shorter : length rest < length bs
+      shorter = omega (arith, ap length behind, length-drop (size_of run) bs, long, some)
 
-      pub shorter : length (take (length bs - k) (drop k bs)) < length bs
-      shorter = omega (arith, length-take (length bs - k) (drop k bs), length-drop k bs, long, size, same_size, whole)
-
-      pub goes_on : (b : Played) → b ≡ take_tape a.run (take (length bs - k) (drop k bs))
-          → more 1 b ≡ take_tape run bs
+      pub goes_on : (b : Played) → b ≡ take_tape a.run rest → more 1 b ≡ take_tape run bs
       goes_on b q =
           let others = rounds_of run (drop (size_of run) bs) in
           let same_run : a.run ≡ next = ap (λ (x : Played). x.run) answered in
-          let rest : take_tape a.run (take (length bs - k) (drop k bs)) ≡ take_rounds next others =
-          ap (take_tape a.run) (whole_rest k bs ∙ ap (λ (i : ℕ). drop i bs) size)
-          ∙ ap₂ (λ (x : Run) (i : ℕ). take_rounds x (cut i (drop i bs))) same_run same_size in
-          ap (more 1) (q ∙ rest) ∙ sym (rounds_on run first others was)
+          let on : take_tape a.run rest ≡ take_rounds next others =
+          ap (take_tape a.run) behind
+          ∙ ap₂ (λ (x : Run) (i : ℕ). take_rounds x (cut i (drop (size_of run) bs))) same_run same_size in
+          ap (more 1) (q ∙ on) ∙ sym (rounds_on run first others was)
           ∙ ap (take_rounds run) (sym (cut_on (size_of run) long bs (omega (arith, some))))
 
       -- the rounds of the rest leave room for this one
-      pub room : (b : Played) → b ≡ take_tape a.run (take (length bs - k) (drop k bs)) → b.rounds + 1 ≤ most_rounds
+      pub room : (b : Played) → b ≡ take_tape a.run rest → b.rounds + 1 ≤ most_rounds
       room b q =
-          let rounds = rounds_of a.run (take (length bs - k) (drop k bs)) in
-          let on : Kept a.run b = rw q (kept rounds a.run left.keeps) in
+          let on : Kept a.run b = rw q (kept (rounds_of a.run rest) a.run left.keeps) in
           omega (arith, on.clock, on.keeps.clock, left.clock, counted)

@@ -1,9 +1,9 @@
 -- Playing a part of a tape (rules 12.9 and 13.3 to 13.8): it is cut into rounds, and these are taken one after the
 -- other. The taking is over rounds that are cut already, wherever they come from.
-use Rattle.std.specs.Prelude.{ℕ, zero, suc, ◌+◌, ◌≡◌, cond, List, [], ◌∷◌, length, take, drop}
+use Rattle.std.specs.Prelude.{ℕ, zero, suc, ◌+◌, ◌≡◌, cond, List, [], ◌∷◌, length, take, drop, Result, Ok, Err}
 use Rattle.paper.specs.Rules.{Kind}
-use Rattle.run.specs.declared.Reply.{Reply}
-use Rattle.run.specs.declared.Reply.TheVariants.{Accepted, Rules}
+use Rattle.run.specs.Reply.{Reply}
+use Rattle.run.specs.Reply.{Accepted, Rules}
 use Rattle.run.specs.declared.Run.{Run}
 use Rattle.run.specs.Keeps.{Keeps}
 use Rattle.run.specs.Reply.{is_accepted}
@@ -30,6 +30,12 @@ ended run r = record { run = run; reply = r; rounds = 0 }
 -- the answer where k rounds were accepted before
 abbrev pub more : ℕ → Played → Played
 more k a = record { run = a.run; reply = a.reply; rounds = a.rounds + k }
+
+-- the answer to a first round, by what taking it gives: the next run beside what is left, or the answer where it is not
+-- accepted
+abbrev pub first_of : {A : Type 0} → Result (Run × A) Played → Played
+first_of (Ok left) = record { run = left.0; reply = Accepted; rounds = 1 }
+first_of (Err a) = a
 
 -- rounds taken in order (rule 13.4)
 unfoldable pub take_rounds : Run → List (List ℕ) → Played

@@ -1,16 +1,17 @@
 // Playing a part of a tape (rules 13.4 to 13.8): its rounds taken in order, until nothing is left or one is refused.
 #![tactic(auto)]
 
-ghost use Rattle.std.specs.Prelude.{◌≡◌, ◌+◌, ◌≤◌, take};
+ghost use Rattle.std.specs.Prelude.{◌≡◌, ◌+◌, ◌≤◌, take, drop, IfOk, IfErr};
 ghost use Rattle.paper.specs.Rules.{update, value, vote};
 ghost use Rattle.run.specs.Keeps.{Keeps};
 ghost use Rattle.run.specs.Run.{most_rounds};
-ghost use Rattle.play.specs.Play.{ended, more, rounds_of, take_rounds, take_tape, play_of, Awaits};
+ghost use Rattle.round.specs.Reading.{round_length};
+ghost use Rattle.play.specs.Play.{ended, more, first_of, rounds_of, take_rounds, take_tape, play_of, Awaits};
 
 use judge::step::step;
 use limits::is_u;
 use round::read;
-use run::{Reply, Run, block};
+use run::{Refusal, Reply, Run};
 
 // The rounds that are handed on at a time: each takes a frame, and so a long tape takes no more stack than these.
 const PART: usize = 16;
@@ -29,8 +30,8 @@ fn ended(run: Run, reply: Reply) -> Played
     ensures { result ≡ ended run reply }
 {
     Played {
-        run: run,
-        reply: reply,
+        run,
+        reply,
         rounds: 0, // a refused round does not count
     }
 }
@@ -40,34 +41,28 @@ fn after(before: u32, a: Played) -> Played
     requires { a.rounds + before ≤ most_rounds }
     ensures { result ≡ more before a }
 {
-    let last = a.run;
-    let reply = a.reply;
     Played {
-        run: last,
-        reply: reply,
         rounds: a.rounds + before,
+        ..a
     }
 }
 
-// Takes the first round of the tape, or the rest if that is shorter; none where nothing is left.
-fn take_first(run: Run, tape: &[u8]) -> Played
-    ensures { result ≡ take_rounds run (take 1 (rounds_of run tape.now)) }
+// Takes the first round of the tape, or the rest if that is shorter: the next run with what is left of the tape; or the
+// answer, where nothing is left or the round is refused.
+fn take_first(run: Run, tape: &[u8]) -> Result<(Run, &[u8]), Played>
+    ensures first { first_of result ≡ take_rounds run (take 1 (rounds_of run tape.now)) }
+    ensures rest { IfOk result (λ left. left.1.now ≡ drop (round_length run.setup.n) tape.now) }
+    ensures none { IfErr result (λ a. a.rounds ≡ 0) }
 {
-    if tape.len() == 0 {
-        return ended(run, Reply::Accepted);
+    if tape.is_empty() {
+        return Err(ended(run, Ok(())));
     }
-    let setup = run.setup;
-    let size = block::least(read::round_length(setup.n), tape.len());
-    let stepped = step(run, &tape[..size]);
-    let reply = stepped.reply;
-    if reply.number() != 0 {
-        return ended(run, reply);
-    }
-    let next = stepped.run;
-    Played {
-        run: next,
-        reply: reply,
-        rounds: 1,
+    let size = read::round_length(run.setup.n).min(tape.len());
+    let (round, rest) = tape.split_at(size);
+    let stepped = step(run, round);
+    match stepped.reply {
+        Ok(()) => Ok((stepped.run, rest)),
+        Err(refusal) => Err(ended(run, Err(refusal))),
     }
 }
 
@@ -77,14 +72,10 @@ fn value_round(run: Run, tape: &[u8]) -> Played
     requires { Awaits value run }
     ensures { result ≡ take_tape run tape.now }
 {
-    let first = take_first(run, tape);
-    if first.rounds == 0 {
-        return first;
+    match take_first(run, tape) {
+        Ok((next, rest)) => after(1, vote_round(next, rest)),
+        Err(played) => played,
     }
-    let next = first.run;
-    let setup = next.setup;
-    let size = read::round_length(setup.n);
-    after(1, vote_round(next, &tape[size..]))
 }
 
 // Takes a vote round of U, and hands the rest on to the value round that follows.
@@ -93,14 +84,10 @@ fn vote_round(run: Run, tape: &[u8]) -> Played
     requires { Awaits vote run }
     ensures { result ≡ take_tape run tape.now }
 {
-    let first = take_first(run, tape);
-    if first.rounds == 0 {
-        return first;
+    match take_first(run, tape) {
+        Ok((next, rest)) => after(1, value_round(next, rest)),
+        Err(played) => played,
     }
-    let next = first.run;
-    let setup = next.setup;
-    let size = read::round_length(setup.n);
-    after(1, value_round(next, &tape[size..]))
 }
 
 // Takes a round of A, and hands the rest on: its rounds are all of one kind.
@@ -108,26 +95,22 @@ fn round_of_a(run: Run, tape: &[u8]) -> Played
     requires { Awaits update run }
     ensures { result ≡ take_tape run tape.now }
 {
-    let first = take_first(run, tape);
-    if first.rounds == 0 {
-        return first;
+    match take_first(run, tape) {
+        Ok((next, rest)) => after(1, round_of_a(next, rest)),
+        Err(played) => played,
     }
-    let next = first.run;
-    let setup = next.setup;
-    let size = read::round_length(setup.n);
-    after(1, round_of_a(next, &tape[size..]))
 }
 
 // Plays a few rounds, by the kind of the round that the run waits for.
+#[tactic(auto, using(run::proofs::Asked::fails, run::proofs::Asked::passes, crate::proofs::Awaited::under_a, crate::proofs::Awaited::votes_first, crate::proofs::Awaited::values_first))]
 fn play_part(run: Run, tape: &[u8]) -> Played
     requires { Keeps run }
     ensures { result ≡ take_tape run tape.now }
 {
-    let setup = run.setup;
-    if !is_u(setup) {
+    if !is_u(run.setup) {
         return round_of_a(run, tape);
     }
-    if rules::may_vote(setup, run.clock) {
+    if rules::may_vote(run.setup, run.clock) {
         return vote_round(run, tape);
     }
     value_round(run, tape)
@@ -138,34 +121,27 @@ fn play_parts(run: Run, tape: &[u8]) -> Played
     requires { Keeps run }
     ensures { result ≡ take_tape run tape.now }
 {
-    let setup = run.setup;
-    let size = PART * read::round_length(setup.n);
-    let mut played = Played {
-        run: run,
-        reply: Reply::Accepted,
-        rounds: 0,
-    };
-    let mut at = 0;
-    while at < tape.len() {
-        let end = at + block::least(size, tape.len() - at);
-        let now = played.run;
-        let part = play_part(now, &tape[at..end]);
-        let reply = part.reply;
-        played = after(played.rounds, part);
-        if reply.number() != 0 {
+    let size = PART * read::round_length(run.setup.n);
+    let mut played = ended(run, Ok(()));
+    let mut left = tape;
+    while !left.is_empty() {
+        let (part, rest) = left.split_at(size.min(left.len()));
+        played = after(played.rounds, play_part(played.run, part));
+        if played.reply.is_err() {
             return played;
         }
-        at = end;
+        left = rest;
     }
     played
 }
 
 // Plays a part of a tape.
+#[tactic(auto, using(run::proofs::Asked::fails, run::proofs::Asked::passes, run::proofs::Sound::sound_iff, crate::proofs::Plays::play_bad, crate::proofs::Plays::play_good), unfolding(crate::specs::Play::play_of))]
 pub fn play(run: Run, tape: &[u8]) -> Played
     ensures { result ≡ play_of run tape.now }
 {
     if !rules::sound(run) {
-        return ended(run, Reply::Rules(0));
+        return ended(run, Err(Refusal::Rules(0)));
     }
     play_parts(run, tape)
 }

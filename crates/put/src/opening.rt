@@ -4,8 +4,7 @@ ghost use Rattle.run.specs.Opening.{starts_end, check_write, write_opening};
 
 use super::records;
 use limits::Setup;
-use run::block::Shape;
-use run::{Reply, Run, head, kinds, opening};
+use run::{Refusal, Reply, Run, head, kinds, opening};
 
 const STARTS_PLACE: u32 = opening::STARTS as u32; // what a reply names
 
@@ -13,35 +12,26 @@ const STARTS_PLACE: u32 = opening::STARTS as u32; // what a reply names
 fn starts_end(setup: Setup, starts: [u32; Run::STATIONS]) -> bool
     ensures { result ≡ starts_end setup starts }
 {
-    let mut i = setup.n as usize;
-    while i < Run::STATIONS {
-        if starts[i] != 0 {
-            return false;
-        }
-        i += 1;
-    }
-    true
+    starts.iter().skip(setup.n as usize).all(|x| *x == 0)
 }
 
 // What writing an opening into a buffer of so many bytes is refused with, or that it is accepted.
+#[tactic(auto, unfolding(run::specs::Opening::check_write))]
 fn check_write(setup: Setup, default: u32, starts: [u32; Run::STATIONS], room: usize) -> Reply
     ensures { result ≡ check_write setup default starts room }
 {
     let n = setup.n;
-    let reply = head::check_setup(setup);
-    if reply.number() != 0 {
-        return reply;
-    }
+    head::check_setup(setup)?;
     if !head::default_fits(setup, default) {
-        return Reply::Malformed(head::DEFAULT_PLACE);
+        return Err(Refusal::Malformed(head::DEFAULT_PLACE));
     }
     if !starts_end(setup, starts) {
-        return Reply::Malformed(STARTS_PLACE + n as u32);
+        return Err(Refusal::Malformed(STARTS_PLACE + n as u32));
     }
     if room != opening::opening_length(n) {
-        return Reply::Buffer;
+        return Err(Refusal::Buffer);
     }
-    Reply::Accepted
+    Ok(())
 }
 
 // Writes an opening into a buffer of exactly its length; a refusal writes no byte.
@@ -54,19 +44,10 @@ pub fn write_opening(
     ensures reply { result ≡ check_write setup default starts (length out.old) }
     ensures bytes { out.new ≡ write_opening setup default starts out.old }
 {
-    let n = setup.n;
-    let checked = check_write(setup, default, starts, out.len());
-    if checked.number() != 0 {
-        return checked;
-    }
+    check_write(setup, default, starts, out.len())?;
     records::put_head(out, setup, default);
-    records::put_block(
-        out,
-        opening::STARTS,
-        n,
-        Shape::Number(kinds::START),
-        [false; Run::STATIONS],
-        starts,
-    );
-    checked
+    records::put_block(out, opening::STARTS, setup.n, |i| {
+        records::plain(kinds::START, i, starts[i as usize])
+    });
+    Ok(())
 }

@@ -1,8 +1,8 @@
 // Records put into a slice (rules 2.1 to 2.4): one, a block with one for each station, and the two that openings and
 // images begin with. Each changes the bytes of its records, as far as the slice has them, and no others.
-ghost use Rattle.std.specs.Prelude.{◌≡◌, false, ◌%◌, get_or};
+ghost use Rattle.std.specs.Prelude.{◌≡◌, ℕ, ◌<◌};
 ghost use Rattle.run.specs.Record.{put_at};
-ghost use Rattle.run.specs.Block.{plain, record_of, block_record};
+ghost use Rattle.run.specs.Block.{plain, record_of};
 ghost use Rattle.run.specs.Opening.{setup_record};
 ghost use Rattle.run.specs.Putting.{put_block, put_head};
 
@@ -10,13 +10,6 @@ use limits::Setup;
 use run::block::Shape;
 use run::record::Record;
 use run::{Run, head, kinds};
-
-// The lowest byte of a number.
-fn low(n: u32) -> u8
-    ensures { result ≡ n % 256 }
-{
-    (n % 256) as u8
-}
 
 // Writes the bytes of record i where the slice has it, and nothing where it has not.
 pub fn put_record(bytes: &mut [u8], i: usize, r: Record)
@@ -26,18 +19,12 @@ pub fn put_record(bytes: &mut [u8], i: usize, r: Record)
         return;
     }
     let at = Run::RECORD * i;
-    let n = r.number;
-    bytes[at] = r.kind;
-    bytes[at + 1] = r.first;
-    bytes[at + 2] = r.second;
-    bytes[at + 3] = r.third;
-    bytes[at + 4] = low(n);
-    bytes[at + 5] = low(n / 256);
-    bytes[at + 6] = low(n / 256 / 256);
-    bytes[at + 7] = low(n / 256 / 256 / 256);
+    let [a, b, c, d] = r.number.to_le_bytes();
+    bytes[at..at + Run::RECORD].copy_from_slice(&[r.kind, r.first, r.second, r.third, a, b, c, d]);
 }
 
 // The record of this kind with a byte 1 and a number.
+#[tactic(auto, unfolding(run::specs::Block::plain))]
 pub fn plain(kind: u8, first: u8, number: u32) -> Record
     ensures { result ≡ plain kind first number }
 {
@@ -51,6 +38,7 @@ pub fn plain(kind: u8, first: u8, number: u32) -> Record
 }
 
 // The setup's record: E and alpha stand in the lowest two bytes of its number.
+#[tactic(auto, unfolding(run::specs::Opening::setup_record))]
 fn setup_record(s: Setup) -> Record
     ensures { result ≡ setup_record s }
 {
@@ -59,11 +47,13 @@ fn setup_record(s: Setup) -> Record
         first: s.algorithm,
         second: s.n,
         third: s.t,
-        number: s.e as u32 + head::BASE * s.alpha as u32,
+        number: u32::from(s.e) + head::BASE * u32::from(s.alpha),
     }
 }
 
-// Writes records 0 and 1, as far as the slice has them.
+// Writes records 0 and 1, as far as the slice has them. The setup and the default are two here as in `write_opening`,
+// which a user calls with them.
+#[tactic(auto, unfolding(run::specs::Putting::put_head))]
 pub fn put_head(bytes: &mut [u8], s: Setup, default: u32)
     ensures { bytes.new ≡ put_head bytes.old s default }
 {
@@ -71,21 +61,10 @@ pub fn put_head(bytes: &mut [u8], s: Setup, default: u32)
     put_record(bytes, head::DEFAULT_AT, plain(kinds::DEFAULT, 0, default));
 }
 
-// What an array holds at a place, and past its end the value that stands for nothing.
-fn flag_at(flags: [bool; Run::STATIONS], i: usize) -> bool
-    ensures { result ≡ get_or flags i false }
-{
-    if i < Run::STATIONS { flags[i] } else { false }
-}
-
-fn number_at(numbers: [u32; Run::STATIONS], i: usize) -> u32
-    ensures { result ≡ get_or numbers i 0 }
-{
-    if i < Run::STATIONS { numbers[i] } else { 0 }
-}
-
-// Station i's record in a block of this shape, with its number if it is there.
-fn record_of(shape: Shape, i: u8, there: bool, number: u32) -> Record
+// Station i's record in a block of this shape, with its number if it is there: a flag and a number, as the definition
+// and the run have them.
+#[tactic(auto, unfolding(run::specs::Block::record_of))]
+pub fn record_of(shape: Shape, i: u8, there: bool, number: u32) -> Record
     ensures { result ≡ record_of shape i there number }
 {
     match shape {
@@ -100,24 +79,13 @@ fn record_of(shape: Shape, i: u8, there: bool, number: u32) -> Record
     }
 }
 
-// Writes n records from start on, of what the arrays hold.
-pub fn put_block(
-    bytes: &mut [u8],
-    start: u16,
-    n: u8,
-    shape: Shape,
-    flags: [bool; Run::STATIONS],
-    numbers: [u32; Run::STATIONS],
-)
-    ensures { bytes.new ≡ put_block bytes.old start n (block_record shape flags numbers) }
+// Writes n records from start on, record i as it is made.
+pub fn put_block<F: Fn(u8) -> Record>(bytes: &mut [u8], start: u16, n: u8, make: F)
+    requires { (i : ℕ) → i < n → F.pre make i }
+    ensures { (f : ℕ → Record) → ((i : ℕ) (r : Record) → i < n → F.post make i r → r ≡ f i)
+        → bytes.new ≡ put_block bytes.old start n f }
 {
-    let mut i: u8 = 0;
-    while i < n {
-        let at = i as usize;
-        let there = flag_at(flags, at);
-        let number = number_at(numbers, at);
-        let r = record_of(shape, i, there, number);
-        put_record(bytes, start as usize + at, r);
-        i += 1;
+    for i in 0..n {
+        put_record(bytes, start as usize + i as usize, make(i));
     }
 }

@@ -1,35 +1,32 @@
--- The matrix: its slots are a table by place, so each law compares two tables place by place. Record k of a round of n
+-- The matrix: its cells are a table by place, so each law compares two tables place by place. Record k of a round of n
 -- stations is that of receiver k / n and sender k % n, and goes to place stations (k / n) + k % n.
 use mathlib.Core.Path.{◌≡◌, refl, ap, sym, ◌∙◌}
 use mathlib.Core.Logic.{◌≢◌}
 use mathlib.Core.Bool.{Bool, true, false, ◌&&◌, cond, and-true}
-use mathlib.Core.List.{List, map}
+use mathlib.Core.List.{List}
 use Prim.Native.Nat.{ℕ, zero, suc, ◌+◌, ◌*◌, ◌/◌, ◌%◌, ◌<◌, ◌≤◌}
 use native.Mathlib.Nat.{mul_assoc}
 use native.Mathlib.Omega.{arith}
 use borrow.Author.Tests.{lt-ltb, le-ltb, ltb-true, ltb-false, eqb-true, eqb-false}
 use lib.Dec.{eqb, ltb}
-use lib.ListN.{length, length-map, get_or, drop, set, replicate, length-set, length-replicate, get_or-replicate}
+use Rattle.std.proofs.lemmas.Bool.Decides.{nat_tests}
+use Rattle.std.proofs.lemmas.List.{get_or-take, get_or-drop, length-take}
+use lib.ListN.{length, get_or, take, drop, length-drop, set, replicate, length-set, length-replicate, get_or-replicate}
 use lib.ListN.{get_or-eq_default}
 use lib.Seq.{get_or-set_same, get_or-set_other}
 use Rattle.run.specs.Record.{record_bytes, record_at}
 use Rattle.run.specs.Run.{stations}
-use Rattle.run.specs.Filled.{tabulate, filled}
-use Rattle.run.proofs.Filled.{length_tabulate, get_or_tabulate, tabulate_of, length_filled, filled_below}
+use Rattle.run.specs.Filled.{tabulate}
+use Rattle.run.proofs.Filled.{length_tabulate, get_or_tabulate, tabulate_of}
 use Rattle.run.proofs.Records.{record_at_take, record_at_drop}
 use Rattle.round.proofs.Places.{receiver_of, sender_of, number_of, number_below, receiver_below, sender_below}
 use Rattle.round.specs.declared.Cell.{Cell}
 use Rattle.round.specs.declared.Cell.TheVariants.{Lost}
-use Rattle.round.specs.declared.Slot.{Slot}
 use Rattle.round.specs.declared.Matrix.{Matrix}
-use Rattle.round.specs.Cells.{cell_in, empty}
-use Rattle.round.specs.Reading.{numbered, cell_of, cell_number, row_part, cells, matrix_of, row_slots}
+use Rattle.round.specs.Cells.{cell_in}
+use Rattle.round.specs.Reading.{numbered, cell_of, cell_number, row_part, cells, matrix_of, cells_of_row, all_lost}
 
 -- ---- tables
--- what owning an array of structs tells of its list
-pub length_mapped : (X Y : Type 0) (f : X → Y) (l : List X) (n : ℕ) → length (map f l) ≡ n → length l ≡ n
-length_mapped X Y f l n e = sym (length-map l f) ∙ e
-
 module _ {ℓ} {A : Type ℓ} where
   pub tabulate_same : (m : ℕ) (f g : ℕ → A) → ((i : ℕ) → i < m → f i ≡ g i) → tabulate m f ≡ tabulate m g
   unfolding tabulate
@@ -53,10 +50,6 @@ module _ {ℓ} {A : Type ℓ} where
           get_or-set_other (tabulate m f) i j v v (eqb-false j i q) ∙ get_or_tabulate m f j v b
           ∙ other j b (eqb-false j i q)
 
-  -- an array that is filled to its end
-  pub filled_all : (m : ℕ) (f : ℕ → A) (d : A) → filled m m f d ≡ tabulate m f
-  filled_all m f d = tabulate_of d m f (filled m m f d) (length_filled m m f d) (λ i l. filled_below m m f d i d l l)
-
 -- ---- the records of a row
 -- the row's record q is the round's record n p + q
 pub record_in_row : (n : ℕ) (bs : List ℕ) (p q : ℕ) → q < n
@@ -67,33 +60,30 @@ record_in_row n bs p q l =
     ∙ rw (mul_assoc record_bytes n p) (record_at_drop (n * p) bs q)
 
 -- ---- a matrix is known by its cells
-abbrev slot : Cell → Slot
-slot c = record { cell = c }
+abbrev at_place : (ℕ → ℕ → Cell) → ℕ → Cell
+at_place f k = f (k / stations) (k % stations)
 
-abbrev at_place : (ℕ → ℕ → Cell) → ℕ → Slot
-at_place f k = slot (f (k / stations) (k % stations))
-
-matrix_slots : (f : ℕ → ℕ → Cell) → (matrix_of f).slots ≡ tabulate (stations * stations) (at_place f)
+matrix_cells : (f : ℕ → ℕ → Cell) → (matrix_of f).cells ≡ tabulate (stations * stations) (at_place f)
 unfolding matrix_of
-matrix_slots f = refl
+matrix_cells f = refl
 
-matrix_is : (f : ℕ → ℕ → Cell) (slots : List Slot) → slots ≡ tabulate (stations * stations) (at_place f)
-    → ◌≡◌ {A = Matrix} (record { slots = slots }) (matrix_of f)
+matrix_is : (f : ℕ → ℕ → Cell) (held : List Cell) → held ≡ tabulate (stations * stations) (at_place f)
+    → ◌≡◌ {A = Matrix} (record { cells = held }) (matrix_of f)
 unfolding matrix_of
-matrix_is f slots e = ap (λ (l : List Slot). record { slots = l }) e
+matrix_is f held e = ap (λ (l : List Cell). record { cells = l }) e
 
 pub matrix_same : (f g : ℕ → ℕ → Cell) → ((p q : ℕ) → p < stations → q < stations → f p q ≡ g p q)
     → matrix_of f ≡ matrix_of g
 matrix_same f g h =
-    matrix_is g (matrix_of f).slots
-    (matrix_slots f ∙ tabulate_same (stations * stations) (at_place f) (at_place g)
-    (λ k l. ap slot (h (k / stations) (k % stations) (omega arith) (omega arith))))
+    matrix_is g (matrix_of f).cells
+    (matrix_cells f ∙ tabulate_same (stations * stations) (at_place f) (at_place g)
+    (λ k l. h (k / stations) (k % stations) (omega arith) (omega arith)))
 
 pub numbered_of : (f : ℕ → ℕ → Cell) (k : ℕ) → k < stations * stations
     → numbered (matrix_of f) k ≡ f (k / stations) (k % stations)
 numbered_of f k l =
-    ap (λ (l : List Slot). (get_or l k empty).cell) (matrix_slots f)
-    ∙ ap (λ (s : Slot). s.cell) (get_or_tabulate (stations * stations) (at_place f) k empty l)
+    ap (λ (l : List Cell). get_or l k Lost) (matrix_cells f)
+    ∙ get_or_tabulate (stations * stations) (at_place f) k Lost l
 
 pub cell_of_matrix : (f : ℕ → ℕ → Cell) (p q : ℕ) → p < stations → q < stations → cell_of (matrix_of f) p q ≡ f p q
 cell_of_matrix f p q lp lq =
@@ -102,30 +92,30 @@ cell_of_matrix f p q lp lq =
     numbered_of f (stations * p + q) (omega arith) ∙ rw (row, column)
 
 -- a matrix with all its places is that of its cells
-pub matrix_again : (m : Matrix) → length m.slots ≡ stations * stations → m ≡ matrix_of (cell_of m)
+pub matrix_again : (m : Matrix) → length m.cells ≡ stations * stations → m ≡ matrix_of (cell_of m)
 matrix_again m len =
-    matrix_is (cell_of m) m.slots
-    (tabulate_of empty (stations * stations) (at_place (cell_of m)) m.slots len
+    matrix_is (cell_of m) m.cells
+    (tabulate_of Lost (stations * stations) (at_place (cell_of m)) m.cells len
     (λ k l. let whole : stations * (k / stations) + k % stations ≡ k = omega arith in rw whole))
 
 -- one that starts as all lost
-pub matrix_lost : (f : ℕ → ℕ → Cell) → ((p q : ℕ) → Lost ≡ f p q)
-    → replicate (stations * stations) empty ≡ (matrix_of f).slots
+matrix_lost : (f : ℕ → ℕ → Cell) → ((p q : ℕ) → Lost ≡ f p q) → all_lost ≡ matrix_of f
 matrix_lost f h =
-    tabulate_replicate (stations * stations) (at_place f) empty (λ k l. ap slot (h (k / stations) (k % stations)))
-    ∙ sym (matrix_slots f)
+    matrix_is f (replicate (stations * stations) Lost)
+    (tabulate_replicate (stations * stations) (at_place f) Lost (λ k l. h (k / stations) (k % stations)))
 
 -- a store of cell (p, q)
-pub matrix_set : (f g : ℕ → ℕ → Cell) (p q : ℕ) (c : Cell) → p < stations → q < stations → c ≡ g p q
+matrix_set : (f g : ℕ → ℕ → Cell) (p q : ℕ) (c : Cell) → p < stations → q < stations → c ≡ g p q
     → ((i j : ℕ) → (i ≡ p → j ≡ q → ⊥) → f i j ≡ g i j)
-    → set (matrix_of f).slots (stations * p + q) (record { cell = c }) ≡ (matrix_of g).slots
+    → ◌≡◌ {A = Matrix} (record { cells = set (matrix_of f).cells (stations * p + q) c }) (matrix_of g)
 matrix_set f g p q c lp lq here there =
     let row : (stations * p + q) / stations ≡ p = omega arith in
     let column : (stations * p + q) % stations ≡ q = omega arith in
-    rw (matrix_slots f, matrix_slots g)
-    (tabulate_set (stations * stations) (at_place f) (at_place g) (stations * p + q) (slot c) (omega arith)
-    (rw (row, column) (ap slot here))
-    (λ k l other. ap slot (there (k / stations) (k % stations) (λ e d. other (omega arith)))))
+    matrix_is g _
+    (ap (λ (l : List Cell). set l (stations * p + q) c) (matrix_cells f)
+    ∙ tabulate_set (stations * stations) (at_place f) (at_place g) (stations * p + q) c (omega arith)
+    (rw (row, column) here)
+    (λ k l other. there (k / stations) (k % stations) (λ e d. other (omega arith))))
 
 -- ---- the matrix filled record by record
 cells_are : (n : ℕ) (bs : List ℕ) (p q : ℕ)
@@ -160,11 +150,7 @@ cell_outside n bs p q out = rw cells_are (go (ltb p n) (ltb q n) refl refl)
 
 -- what is below the next number is below this one or is it
 below_next : (i k : ℕ) → i ≢ k → ltb i k ≡ ltb i (k + 1)
-below_next i k h = go (ltb i k) refl
-  where
-    go : (b : Bool) → ltb i k ≡ b → ltb i k ≡ ltb i (k + 1)
-    go true q = let l : i < k = ltb-true i k q in q ∙ sym (lt-ltb i (k + 1) (omega arith))
-    go false q = let l : k ≤ i = ltb-false i k q in q ∙ sym (le-ltb i (k + 1) (omega arith))
+below_next i k h = grind (arith, nat_tests)
 
 module _ (n : ℕ) (bs : List ℕ) where
   -- cell (p, q) when the records below k are read
@@ -172,7 +158,7 @@ module _ (n : ℕ) (bs : List ℕ) where
   so_far k p q = cond (ltb p n && ltb q n && ltb (cell_number n p q) k) (cell_in (record_at bs (cell_number n p q)))
       Lost
 
-  pub filling_none : replicate (stations * stations) empty ≡ (matrix_of (so_far 0)).slots
+  pub filling_none : all_lost ≡ matrix_of (so_far 0)
   unfolding so_far
   filling_none =
       matrix_lost (so_far 0) (λ p q. rw (le-ltb (cell_number n p q) 0 (omega arith)) (nowhere (ltb p n) (ltb q n) _))
@@ -183,8 +169,8 @@ module _ (n : ℕ) (bs : List ℕ) where
       nowhere true true c = refl
 
   pub filling_more : (k : ℕ) (c : Cell) → n ≤ stations → k < n * n → c ≡ cell_in (record_at bs k)
-      → set (matrix_of (so_far k)).slots (stations * (k / n) + k % n) (record { cell = c })
-      ≡ (matrix_of (so_far (k + 1))).slots
+      → ◌≡◌ {A = Matrix} (record { cells = set (matrix_of (so_far k)).cells (stations * (k / n) + k % n) c })
+      (matrix_of (so_far (k + 1)))
   unfolding so_far
   filling_more k c small l e =
       let receiver : k / n < n = receiver_below n k l in
@@ -204,44 +190,51 @@ module _ (n : ℕ) (bs : List ℕ) where
       (λ lp lq. ap cell_in (sym (record_in_row n bs p q lq)))
       ∙ rw and-true (sym (cells_are n bs p q))
 
-  pub filling_done : (slots : List Slot) → slots ≡ (matrix_of (so_far (n * n))).slots
-      → ◌≡◌ {A = Matrix} (record { slots = slots }) (matrix_of (cells n bs))
-  filling_done slots e =
-      ap (λ (l : List Slot). record { slots = l }) e
-      ∙ matrix_same (so_far (n * n)) (cells n bs) (λ p q lp lq. all_read p q)
+  pub filling_done : matrix_of (so_far (n * n)) ≡ matrix_of (cells n bs)
+  filling_done = matrix_same (so_far (n * n)) (cells n bs) (λ p q lp lq. all_read p q)
 
 -- ---- a row of a matrix
-pub row_past : (m : Matrix) (p : ℕ) → length m.slots ≡ stations * stations → stations * stations ≤ stations * p
-    → replicate stations empty ≡ row_slots m p
-unfolding row_slots
+pub row_past : (m : Matrix) (p : ℕ) → length m.cells ≡ stations * stations → stations * stations ≤ stations * p
+    → replicate stations Lost ≡ cells_of_row m p
+unfolding cells_of_row
 row_past m p len h =
-    tabulate_replicate stations (λ q. get_or m.slots (stations * p + q) empty) empty
-    (λ q l. sym (get_or-eq_default m.slots empty (omega arith)))
+    tabulate_replicate stations (λ q. get_or m.cells (stations * p + q) Lost) Lost
+    (λ q l. sym (get_or-eq_default m.cells Lost (omega arith)))
 
--- one that the matrix has holds its cells, and nothing past them
+-- one that the matrix has is a part of it
+pub row_taken : (m : Matrix) (p k : ℕ) → length m.cells ≡ stations * stations → stations * p < stations * stations
+    → k ≡ stations → take k (drop (stations * p) m.cells) ≡ cells_of_row m p
+unfolding cells_of_row
+row_taken m p k len h whole =
+    tabulate_of Lost stations (λ q. get_or m.cells (stations * p + q) Lost) _
+    (simp (length-take, length-drop) (omega arith))
+    (λ q l. get_or-take k (drop (stations * p) m.cells) q Lost (omega arith)
+    ∙ get_or-drop (stations * p) m.cells q Lost)
+
+-- so it holds the matrix's cells, and nothing past them
 row_cell : (m : Matrix) (p q : ℕ) → q < stations
-    → get_or (row_slots m p) q empty ≡ get_or m.slots (stations * p + q) empty
-unfolding row_slots
-row_cell m p q l = get_or_tabulate stations (λ q. get_or m.slots (stations * p + q) empty) q empty l
+    → get_or (cells_of_row m p) q Lost ≡ get_or m.cells (stations * p + q) Lost
+unfolding cells_of_row
+row_cell m p q l = get_or_tabulate stations (λ q. get_or m.cells (stations * p + q) Lost) q Lost l
 
-row_beyond : (m : Matrix) (p q : ℕ) → stations ≤ q → get_or (row_slots m p) q empty ≡ empty
-unfolding row_slots
+row_beyond : (m : Matrix) (p q : ℕ) → stations ≤ q → get_or (cells_of_row m p) q Lost ≡ Lost
+unfolding cells_of_row
 row_beyond m p q past =
-    let long : length (row_slots m p) ≤ q =
-    rw (length_tabulate stations (λ q. get_or m.slots (stations * p + q) empty)) past in
-    get_or-eq_default (row_slots m p) empty long
+    let long : length (cells_of_row m p) ≤ q =
+    rw (length_tabulate stations (λ q. get_or m.cells (stations * p + q) Lost)) past in
+    get_or-eq_default (cells_of_row m p) Lost long
 
 -- so a row of the matrix that was read spells the receiver's cells
 pub row_spells : (n : ℕ) (bs : List ℕ) (p q : ℕ) → n ≤ stations → p < stations
-    → (get_or (row_slots (matrix_of (cells n bs)) p) q empty).cell ≡ cells n bs p q
+    → get_or (cells_of_row (matrix_of (cells n bs)) p) q Lost ≡ cells n bs p q
 row_spells n bs p q small here = go (ltb q stations) refl
   where
-    go : (b : Bool) → ltb q stations ≡ b → (get_or (row_slots (matrix_of (cells n bs)) p) q empty).cell ≡ cells n bs p q
+    go : (b : Bool) → ltb q stations ≡ b → get_or (cells_of_row (matrix_of (cells n bs)) p) q Lost ≡ cells n bs p q
     go true e =
         let inside : q < stations = ltb-true q stations e in
-        ap (λ (s : Slot). s.cell) (row_cell (matrix_of (cells n bs)) p q inside)
+        row_cell (matrix_of (cells n bs)) p q inside
         ∙ cell_of_matrix (cells n bs) p q here inside
     go false e =
         let past : stations ≤ q = ltb-false q stations e in
-        ap (λ (s : Slot). s.cell) (row_beyond (matrix_of (cells n bs)) p q past)
+        row_beyond (matrix_of (cells n bs)) p q past
         ∙ sym (cell_outside n bs p q (λ lp lq. omega arith))

@@ -8,10 +8,6 @@ use native.Mathlib.Omega.{arith}
 use Rattle.run.specs.Run.{stations}
 use Rattle.round.specs.Reading.{cell_number}
 
--- two bytes' product
-pub byte_product : (a b : ℕ) → a < 256 → b < 256 → a * b ≤ 65025
-byte_product a b ha hb = let la : a ≤ 255 = omega arith in let lb : b ≤ 255 = omega arith in mul-le-mul la lb
-
 pub receiver_of : (n p q : ℕ) → q < n → cell_number n p q / n ≡ p
 receiver_of n p q l =
     let pos : 0 < n = omega arith in

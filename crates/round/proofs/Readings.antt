@@ -4,11 +4,11 @@ use mathlib.Core.Logic.{◌↔◌}
 use mathlib.Core.Bool.{Bool, true, false}
 use mathlib.Core.List.{List}
 use Prim.Native.Nat.{ℕ, ◌<◌, ◌≤◌}
-use borrow.Author.Tests.{eq-eqb, ne_eqb, eqb-true}
+use borrow.Author.Tests.{eq-eqb, eqb-true}
 use lib.Dec.{eqb}
 use lib.ListN.{length}
-use Rattle.run.specs.declared.Reply.{Reply}
-use Rattle.run.specs.declared.Reply.TheVariants.{Accepted, Length, Rules}
+use Rattle.run.specs.Reply.{Reply}
+use Rattle.run.specs.Reply.{Accepted, Length, Rules}
 use Rattle.run.specs.declared.Run.{Run}
 use Rattle.run.specs.Record.{record_at}
 use Rattle.run.specs.Reply.{is_accepted, ◌then◌, or_refuse}
@@ -53,14 +53,8 @@ module _ (run : Run) (bs : List ℕ) where
   unfolding check_reading
   checks = refl
 
-  -- the first check that fails gives the reply, and the records are asked last
-  pub reading_unsound : sound run ≡ false → Rules 0 ≡ check_reading run bs
-  reading_unsound e = rw (checks, e)
-
-  pub reading_length : sound run ≡ true → (length bs ≡ round_length run.setup.n → ⊥) → Length ≡ check_reading run bs
-  reading_length e l = rw (checks, e, ne_eqb _ _ l)
-
-  pub reading_cells : sound run ≡ true → length bs ≡ round_length run.setup.n
+  -- the records are asked last
+  reading_cells : sound run ≡ true → length bs ≡ round_length run.setup.n
       → check_cells (votes_next run) run.setup.n bs ≡ check_reading run bs
   reading_cells e l = rw (checks, e, eq-eqb _ _ l)
 

@@ -7,7 +7,7 @@ use native.Mathlib.Omega.{arith}
 use borrow.Author.Tests.{eq-eqb, ne_eqb, eqb-true}
 use lib.Dec.{eqb}
 use Rattle.paper.proofs.Counting.{both}
-use Rattle.run.specs.declared.Reply.TheVariants.{Accepted, Malformed, Query}
+use Rattle.run.specs.Reply.{Accepted, Malformed, Query}
 use Rattle.run.specs.declared.record.Record.{Record}
 use Rattle.run.specs.Record.{Fits}
 use Rattle.run.proofs.Replies.{then_accepted, accepted_then, or_refuse_accepted, accepted_or_refuse}

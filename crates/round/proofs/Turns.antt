@@ -1,15 +1,15 @@
 -- Checks made in turn: by induction on their number, the last of which is asked only if all before it accepted.
 use mathlib.Core.Path.{◌≡◌, refl, ap, sym, ◌∙◌}
 use mathlib.Core.Logic.{◌↔◌, ⊎_elim}
-use mathlib.Core.Bool.{false}
+use mathlib.Core.Bool.{Bool, true, false, not}
 use Prim.Native.Nat.{ℕ, zero, suc, ◌+◌, ◌*◌, ◌/◌, ◌%◌, ◌<◌}
 use native.Mathlib.Nat.{not-suc-le-zero, eq-or-lt_of_le, le_of_suc-le-suc, add-zero, add-suc, mul-zero, mul-suc}
 use native.Mathlib.Numerals.{add-one}
 use native.Mathlib.Omega.{arith}
 use borrow.Author.Count.{below_more}
-use Rattle.run.specs.declared.Reply.{Reply}
-use Rattle.run.specs.declared.Reply.TheVariants.{Accepted}
-use Rattle.run.specs.Reply.{is_accepted, ◌then◌}
+use Rattle.std.specs.Prelude.{Option, None, Some}
+use Rattle.run.specs.First.{first, or_here}
+use Rattle.run.specs.Reply.{Reply, Accepted, is_accepted, ◌then◌, or_refuse, refuse_at}
 use Rattle.run.proofs.Replies.{accepted_then, then_accepted, then_assoc, then_end, then_stop}
 use Rattle.round.specs.Reading.{in_turn}
 use Rattle.round.proofs.Places.{receiver_of, sender_of}
@@ -61,6 +61,18 @@ pub turn_same : (n : ℕ) (f g : ℕ → Reply) → ((i : ℕ) → i < n → f i
 unfolding in_turn
 turn_same zero f g h = refl
 turn_same (suc n) f g h = rw (turn_same n f g (λ i l. h i (omega arith)), h n (omega arith))
+
+-- checks that refuse where a test is true: the lowest such place gives the reply
+pub turn_first : (n : ℕ) (s r : ℕ → Reply) (f : ℕ → Bool) → ((i : ℕ) → s i ≡ or_refuse (not (f i)) (r i))
+    → ((i : ℕ) → is_accepted (r i) ≡ false) → in_turn n s ≡ refuse_at (first n f) r
+unfolding in_turn first
+turn_first zero s r f e h = refl
+turn_first (suc n) s r f e h = rw (turn_first n s r f e h, e n) (next (first n f) (f n))
+  where
+    next : (o : Option ℕ) (b : Bool) → (refuse_at o r then or_refuse (not b) (r n)) ≡ refuse_at (or_here o b n) r
+    next None true = refl
+    next None false = refl
+    next (Some i) b = then_stop (r i) (or_refuse (not b) (r n)) (h i)
 
 -- checks made in two goes, and in rows of m each
 pub turn_add : (m n : ℕ) (f : ℕ → Reply) → in_turn (m + n) f ≡ (in_turn m f then in_turn n (λ i. f (m + i)))

@@ -1,17 +1,12 @@
 -- Cells and their records: rules 2.4, 2.6 and 4.1.
 use Rattle.std.specs.Prelude.{ℕ, Bool, not, ◌&&◌, ◌||◌, cond, eqb}
-use Rattle.run.specs.declared.Reply.{Reply}
-use Rattle.run.specs.declared.Reply.TheVariants.{Malformed, Query}
+use Rattle.run.specs.Reply.{Reply}
+use Rattle.run.specs.Reply.{Malformed, Query}
 use Rattle.run.specs.declared.record.Record.{Record}
 use Rattle.run.specs.Kinds as kind
 use Rattle.run.specs.Reply.{◌then◌, or_refuse}
 use Rattle.round.specs.declared.Cell.{Cell}
 use Rattle.round.specs.declared.Cell.TheVariants as cell
-use Rattle.round.specs.declared.Slot.{Slot}
-
--- a lost cell in an array
-abbrev pub empty : Slot
-empty = record { cell = cell.Lost }
 
 -- kind 4 for a value, 5 for "?", 6 for a lost cell; the receiver, the sender, and the value if there is one (rule 2.4)
 unfoldable pub cell_record : ℕ → ℕ → Cell → Record

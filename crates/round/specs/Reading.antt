@@ -18,9 +18,13 @@ use Rattle.std.specs.Prelude.{
   replicate,
   eqb,
   ltb,
+  Result,
+  Ok,
+  Err,
 }
-use Rattle.run.specs.declared.Reply.{Reply}
-use Rattle.run.specs.declared.Reply.TheVariants.{Accepted, Length, Rules}
+use Rattle.run.specs.declared.reply.Refusal.{Refusal}
+use Rattle.run.specs.Reply.{Reply}
+use Rattle.run.specs.Reply.{Accepted, Length, Rules}
 use Rattle.run.specs.declared.Run.{Run}
 use Rattle.run.specs.Record.{record_bytes, record_at}
 use Rattle.run.specs.Reply.{is_accepted, ◌then◌, or_refuse}
@@ -28,10 +32,9 @@ use Rattle.run.specs.Run.{stations, may_vote, sound}
 use Rattle.run.specs.Filled.{tabulate}
 use Rattle.round.specs.declared.Cell.{Cell}
 use Rattle.round.specs.declared.Cell.TheVariants.{Lost}
-use Rattle.round.specs.declared.Slot.{Slot}
 use Rattle.round.specs.declared.Matrix.{Matrix}
 use Rattle.round.specs.declared.Reading.{Reading}
-use Rattle.round.specs.Cells.{cell_in, check_cell, empty}
+use Rattle.round.specs.Cells.{cell_in, check_cell}
 
 -- the first refusal of f 0, f 1, .., f (n - 1)
 unfoldable pub in_turn : ℕ → (ℕ → Reply) → Reply
@@ -77,22 +80,27 @@ cells n bs p q = cond (ltb p n && ltb q n) (cell_in (record_at (row_part n bs p)
 -- the matrix with these cells (rule 4.7)
 unfoldable pub matrix_of : (ℕ → ℕ → Cell) → Matrix
 unfolding tabulate
-matrix_of f = record { slots = tabulate (stations * stations) (λ k. record { cell = f (k / stations) (k % stations) }) }
+matrix_of f = record { cells = tabulate (stations * stations) (λ k. f (k / stations) (k % stations)) }
 
 -- cell number k, and cell (p, q), of a matrix
 abbrev pub numbered : Matrix → ℕ → Cell
-numbered m k = (get_or m.slots k empty).cell
+numbered m k = get_or m.cells k Lost
 
 abbrev pub cell_of : Matrix → ℕ → ℕ → Cell
 cell_of m p q = numbered m (stations * p + q)
 
 -- row p of a matrix, as an array (rule 4.8); lost where there is no such row
-unfoldable pub row_slots : Matrix → ℕ → List Slot
+unfoldable pub cells_of_row : Matrix → ℕ → List Cell
 unfolding tabulate
-row_slots m p = tabulate stations (λ q. get_or m.slots (stations * p + q) empty)
+cells_of_row m p = tabulate stations (λ q. get_or m.cells (stations * p + q) Lost)
 
 abbrev pub all_lost : Matrix
-all_lost = record { slots = replicate (stations * stations) empty }
+all_lost = record { cells = replicate (stations * stations) Lost }
+
+-- what a reading answers: the matrix, all lost where the round is refused (rule 12.5)
+abbrev pub reading_of : Result Matrix Refusal → Reading
+reading_of (Ok m) = record { reply = Accepted; matrix = m }
+reading_of (Err r) = record { reply = Err r; matrix = all_lost }
 
 -- the matrix of a round that is read, all lost where it is refused (rule 12.5)
 unfoldable pub read_round : Run → List ℕ → Reading

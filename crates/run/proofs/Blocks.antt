@@ -4,7 +4,7 @@ use mathlib.Core.Path.{◌≡◌, refl, ap, sym, ◌∙◌}
 use mathlib.Core.Logic.{◌↔◌, ◌≢◌, ◌⊎◌, inl, inr, ⊎_elim}
 use mathlib.Core.Bool.{Bool, true, false, not, ◌||◌, and-eq-true_iff, or-true, true≢false}
 use mathlib.Core.List.{List, ◌++◌, append_assoc, append-nil}
-use mathlib.Core.Option.{Option, none, some}
+use Rattle.std.specs.Prelude.{Option, None, Some}
 use Prim.Native.Nat.{ℕ, zero, suc, ◌+◌, ◌*◌, ◌/◌, ◌^◌, ◌<◌, ◌≤◌}
 use native.Mathlib.Numerals.{add-one}
 use native.Mathlib.Omega.{arith}
@@ -16,7 +16,7 @@ use Rattle.run.specs.Number.{base}
 use Rattle.run.specs.declared.record.Record.{Record}
 use Rattle.run.specs.declared.block.Shape.{Shape}
 use Rattle.run.specs.declared.block.Shape.TheVariants.{Number, Maybe}
-use Rattle.run.specs.declared.Reply.TheVariants.{Accepted, Malformed}
+use Rattle.run.specs.Reply.{Accepted, Malformed}
 use Rattle.run.specs.Record.{record_bytes, record_at, bytes_of, put_at, Fits}
 use Rattle.run.specs.Written.{written}
 use Rattle.run.specs.First.{first}
@@ -230,8 +230,8 @@ module _ (bs : List ℕ) (start n : ℕ) (shape : Shape) where
       go : (o : Option ℕ) → found ≡ o
           → (i : ℕ) × (i < n) × (fits_at bs start shape i ≡ false) × ((j : ℕ) → j < i → fits_at bs start shape j ≡ true)
           × (check_block bs start n shape ≡ Malformed (start + i))
-      go none q = absurd (true≢false (sym (ap is_accepted (accepted_refuse_at found _ q)) ∙ e))
-      go (some i) q =
+      go None q = absurd (true≢false (sym (ap is_accepted (accepted_refuse_at found _ q)) ∙ e))
+      go (Some i) q =
           let (l, here, before) = (first_some (λ i. not (fits_at bs start shape i)) n i).0 q in
           (i, l, not-true _ here, λ j b. not-false _ (before j b), rw q)
 

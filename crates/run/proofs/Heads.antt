@@ -14,7 +14,7 @@ use lib.Seq.{drop-drop}
 use Rattle.paper.specs.Setup as setup
 use Rattle.limits.specs.declared.Setup.{Setup}
 use Rattle.run.specs.declared.record.Record.{Record}
-use Rattle.run.specs.declared.Reply.TheVariants.{Accepted, Length, Malformed, Range, Inequality}
+use Rattle.run.specs.Reply.{Accepted, Length, Malformed, Range, Inequality}
 use Rattle.run.specs.Record.{record_bytes, record_at, bytes_of, put_at, Fits}
 use Rattle.run.specs.Written.{written}
 use Rattle.run.specs.Kinds as kind

@@ -5,6 +5,7 @@ pub mod Records  -- a record, read and written
 pub mod Written  -- records one after another
 pub mod First  -- the lowest place at which a test is true
 pub mod Filled  -- arrays filled from their start
+pub mod Places  -- a test of every place, as a search for one that fails it
 pub mod Replies  -- checks in a stated order
 pub mod Unique  -- promises leave one answer
 pub mod Blocks  -- blocks of records

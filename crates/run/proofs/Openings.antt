@@ -15,8 +15,8 @@ use Rattle.run.specs.declared.Run.{Run}
 use Rattle.run.specs.declared.Station.{Station}
 use Rattle.run.specs.declared.Opened.{Opened}
 use Rattle.run.specs.declared.record.Record.{Record}
-use Rattle.run.specs.declared.Reply.{Reply}
-use Rattle.run.specs.declared.Reply.TheVariants.{Accepted, Length, Malformed, Buffer}
+use Rattle.run.specs.Reply.{Reply}
+use Rattle.run.specs.Reply.{Accepted, Length, Malformed, Buffer}
 use Rattle.run.specs.Bytes.{IsBytes}
 use Rattle.run.specs.Kinds as kind
 use Rattle.run.specs.Record.{record_bytes, record_at}

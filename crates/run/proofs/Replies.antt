@@ -1,36 +1,26 @@
 -- Checks in a stated order: what is accepted passed each of them, since a reply that refuses has a number other than 0.
 use mathlib.Core.Path.{◌≡◌, refl, ap, sym, ◌∙◌}
 use mathlib.Core.Bool.{Bool, true, false, false≢true}
-use mathlib.Core.Option.{Option, none, some}
+use Rattle.std.specs.Prelude.{Option, None, Some}
 use Prim.Native.Nat.{ℕ}
-use Rattle.run.specs.declared.Reply.{Reply}
-use Rattle.run.specs.declared.Reply.TheVariants.{
-  Accepted,
-  Length,
-  Malformed,
-  Range,
-  Inequality,
-  Query,
-  Altered,
-  Unsafe,
-  Full,
-  Buffer,
-  Rules,
-}
+use Rattle.run.specs.Reply.{Reply}
+use Rattle.std.specs.Prelude.{Ok, Err}
+use Rattle.run.specs.declared.reply.Refusal.TheVariants as refusal
+use Rattle.run.specs.Reply.{Accepted}
 use Rattle.run.specs.Reply.{is_accepted, ◌then◌, or_refuse, refuse_at}
 
 pub accepted_is : (r : Reply) → is_accepted r ≡ true → r ≡ Accepted
-accepted_is Accepted e = refl
-accepted_is Length e = absurd (false≢true e)
-accepted_is (Malformed at) e = absurd (false≢true e)
-accepted_is Range e = absurd (false≢true e)
-accepted_is Inequality e = absurd (false≢true e)
-accepted_is (Query at) e = absurd (false≢true e)
-accepted_is (Altered at) e = absurd (false≢true e)
-accepted_is (Unsafe at) e = absurd (false≢true e)
-accepted_is Full e = absurd (false≢true e)
-accepted_is Buffer e = absurd (false≢true e)
-accepted_is (Rules at) e = absurd (false≢true e)
+accepted_is (Ok tt) e = refl
+accepted_is (Err refusal.Length) e = absurd (false≢true e)
+accepted_is (Err (refusal.Malformed at)) e = absurd (false≢true e)
+accepted_is (Err refusal.Range) e = absurd (false≢true e)
+accepted_is (Err refusal.Inequality) e = absurd (false≢true e)
+accepted_is (Err (refusal.Query at)) e = absurd (false≢true e)
+accepted_is (Err (refusal.Altered at)) e = absurd (false≢true e)
+accepted_is (Err (refusal.Unsafe at)) e = absurd (false≢true e)
+accepted_is (Err refusal.Full) e = absurd (false≢true e)
+accepted_is (Err refusal.Buffer) e = absurd (false≢true e)
+accepted_is (Err (refusal.Rules at)) e = absurd (false≢true e)
 
 -- a reply that refuses is not the accepting one
 pub refused_isn't : (r : Reply) → is_accepted r ≡ false → r ≡ Accepted → ⊥
@@ -78,9 +68,9 @@ accepted_or_refuse b r e = rw e
 
 -- a search for a place at fault
 pub refuse_at_accepted : (o : Option ℕ) (r : ℕ → Reply) → ((i : ℕ) → is_accepted (r i) ≡ false) → refuse_at o r
-    ≡ Accepted → o ≡ none
-refuse_at_accepted none r f e = refl
-refuse_at_accepted (some i) r f e = absurd (refused_isn't (r i) (f i) e)
+    ≡ Accepted → o ≡ None
+refuse_at_accepted None r f e = refl
+refuse_at_accepted (Some i) r f e = absurd (refused_isn't (r i) (f i) e)
 
-pub accepted_refuse_at : (o : Option ℕ) (r : ℕ → Reply) → o ≡ none → refuse_at o r ≡ Accepted
+pub accepted_refuse_at : (o : Option ℕ) (r : ℕ → Reply) → o ≡ None → refuse_at o r ≡ Accepted
 accepted_refuse_at o r e = rw e

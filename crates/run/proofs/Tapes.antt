@@ -10,7 +10,7 @@ use lib.ListN.{length, get_or, take, drop}
 use lib.ListN.{length-take, length-drop, take-append-drop, drop_of_length-le, get_or-append}
 use lib.Seq.{take_all, take_at, drop_at}
 use Rattle.run.specs.declared.record.Record.{Record}
-use Rattle.run.specs.declared.Reply.TheVariants.{Accepted}
+use Rattle.run.specs.Reply.{Accepted}
 use Rattle.run.specs.Record.{record_bytes, record_from}
 use Rattle.run.specs.Opening.{setup_at, read_setup, setup_in, opening_length, check_opening}
 use Rattle.run.specs.Tape.{n_at, opening_size, opening_part, rounds_part}

@@ -4,8 +4,8 @@ use Rattle.std.specs.Prelude.{ℕ, ◌+◌, Bool, true, false, not, ◌&&◌, �
 use Rattle.run.specs.declared.record.Record.{Record}
 use Rattle.run.specs.declared.block.Shape.{Shape}
 use Rattle.run.specs.declared.block.Shape.TheVariants.{Number, Maybe}
-use Rattle.run.specs.declared.Reply.{Reply}
-use Rattle.run.specs.declared.Reply.TheVariants.{Malformed}
+use Rattle.run.specs.Reply.{Reply}
+use Rattle.run.specs.Reply.{Malformed}
 use Rattle.run.specs.Record.{record_at}
 use Rattle.run.specs.First.{first}
 use Rattle.run.specs.Filled.{filled}

@@ -17,6 +17,9 @@ use Rattle.std.specs.Prelude.{
   eqb,
   leb,
   ltb,
+  Result,
+  Ok,
+  Err,
 }
 use Rattle.paper.specs.Setup as setup
 use Rattle.paper.specs.Stations.{every}
@@ -27,8 +30,9 @@ use Rattle.run.specs.declared.Opened.{Opened}
 use Rattle.run.specs.declared.record.Record.{Record}
 use Rattle.run.specs.declared.block.Shape.{Shape}
 use Rattle.run.specs.declared.block.Shape.TheVariants.{Number}
-use Rattle.run.specs.declared.Reply.{Reply}
-use Rattle.run.specs.declared.Reply.TheVariants.{Length, Malformed, Range, Inequality, Buffer}
+use Rattle.run.specs.declared.reply.Refusal.{Refusal}
+use Rattle.run.specs.Reply.{Reply}
+use Rattle.run.specs.Reply.{Accepted, Length, Malformed, Range, Inequality, Buffer}
 use Rattle.run.specs.Kinds as kind
 use Rattle.run.specs.Number.{base, two_bytes}
 use Rattle.run.specs.Record.{record_bytes, record_at, bytes_of}
@@ -115,6 +119,11 @@ starts_in bs = numbers_in bs starts_from (setup_in bs).n
 unfoldable pub unopened : Reply → Opened
 unfolding idle
 unopened r = record { reply = r; run = idle }
+
+-- what a reading answers: the run that was read, or why none was
+abbrev pub opened : Result Run Refusal → Opened
+opened (Ok run) = record { reply = Accepted; run = run }
+opened (Err r) = unopened (Err r)
 
 abbrev pub answer : Reply → Run → Opened
 answer r run = cond (is_accepted r) (record { reply = r; run = run }) (unopened r)

@@ -4,7 +4,7 @@ ghost use Rattle.run.specs.Block.{is_plain, block_fits, check_block, numbers_in,
 ghost use Rattle.run.specs.Run.{stations};
 
 use super::record::Record;
-use super::{Reply, Run, record};
+use super::{Refusal, Reply, Run, each, record};
 
 // The records of a block: all with a number, under one kind; or some without, under a kind of their own.
 #[derive(Clone, Copy)]
@@ -14,6 +14,7 @@ pub enum Shape {
 }
 
 // Whether the record is of this kind with this byte 1, and bytes 2 and 3 are zero.
+#[tactic(auto, unfolding(crate::specs::Block::is_plain))]
 pub fn is_plain(r: Record, kind: u8, first: u8) -> bool
     ensures { result ≡ is_plain kind first r }
 {
@@ -21,6 +22,7 @@ pub fn is_plain(r: Record, kind: u8, first: u8) -> bool
 }
 
 // Whether the record may be station i's in a block of this shape.
+#[tactic(auto, unfolding(crate::specs::Block::block_fits))]
 fn fits(shape: Shape, i: u8, r: Record) -> bool
     ensures { result ≡ block_fits shape i r }
 {
@@ -35,57 +37,38 @@ fn fits(shape: Shape, i: u8, r: Record) -> bool
 pub fn check_block(bytes: &[u8], start: u16, n: u8, shape: Shape) -> Reply
     ensures { result ≡ check_block bytes.now start n shape }
 {
-    let mut i: u8 = 0;
-    while i < n {
-        let r = record::record_at(bytes, start as usize + i as usize);
-        if !fits(shape, i, r) {
-            return Reply::Malformed(start as u32 + i as u32);
-        }
-        i += 1;
+    let at = |i: usize| record::record_at(bytes, start as usize + i);
+    match each::first(n as usize, |i| !fits(shape, i as u8, at(i))) {
+        Some(i) => Err(Refusal::Malformed(start as u32 + i as u32)),
+        None => Ok(()),
     }
-    Reply::Accepted
-}
-
-// The lower of the two.
-pub fn least(a: usize, b: usize) -> usize
-    ensures { result ≡ min a b }
-{
-    if a < b { a } else { b }
 }
 
 // How many of the n stations an array has a place for.
 pub fn places(n: u8) -> usize
     ensures { result ≡ min n stations }
 {
-    least(n as usize, Run::STATIONS)
+    usize::from(n).min(Run::STATIONS)
 }
 
 // The numbers of the n records from start on, with 0 from n up.
 pub fn numbers_in(bytes: &[u8], start: u16, n: u8) -> [u32; Run::STATIONS]
     ensures { result ≡ numbers_in bytes.now start n }
 {
-    let mut numbers = [0; Run::STATIONS];
-    let last = places(n);
-    let mut i: usize = 0;
-    while i < last {
-        let r = record::record_at(bytes, start as usize + i);
-        numbers[i] = r.number;
-        i += 1;
-    }
-    numbers
+    each::filled(
+        n as usize,
+        0,
+        |i| record::record_at(bytes, start as usize + i).number,
+    )
 }
 
 // Which of the n records from start on are of this kind, with false from n up.
 pub fn flags_in(bytes: &[u8], start: u16, n: u8, kind: u8) -> [bool; Run::STATIONS]
     ensures { result ≡ flags_in bytes.now start n kind }
 {
-    let mut flags = [false; Run::STATIONS];
-    let last = places(n);
-    let mut i: usize = 0;
-    while i < last {
-        let r = record::record_at(bytes, start as usize + i);
-        flags[i] = r.kind == kind;
-        i += 1;
-    }
-    flags
+    each::filled(
+        n as usize,
+        false,
+        |i| record::record_at(bytes, start as usize + i).kind == kind,
+    )
 }

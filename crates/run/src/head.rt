@@ -14,7 +14,7 @@ ghost use Rattle.run.specs.Opening.{
 };
 
 use super::record::Record;
-use super::{Reply, Run, block, kinds, record};
+use super::{Refusal, Reply, Run, block, kinds, record};
 use limits::inequalities::acceptable;
 use limits::{Setup, is_u};
 
@@ -39,6 +39,7 @@ fn between(low: u8, x: u8, high: u8) -> bool
 }
 
 // Rule 10.1.
+#[tactic(auto, unfolding(crate::specs::Run::in_range))]
 pub fn in_range(s: Setup) -> bool
     ensures { result ≡ in_range s }
 {
@@ -46,6 +47,7 @@ pub fn in_range(s: Setup) -> bool
 }
 
 // The default is 0 under A.
+#[tactic(auto, unfolding(crate::specs::Run::default_fits))]
 pub fn default_fits(s: Setup, d: u32) -> bool
     ensures { result ≡ default_fits s d }
 {
@@ -53,19 +55,21 @@ pub fn default_fits(s: Setup, d: u32) -> bool
 }
 
 // What a setup is refused with: its range comes before its inequalities.
+#[tactic(auto, unfolding(crate::specs::Opening::check_setup))]
 pub fn check_setup(s: Setup) -> Reply
     ensures { result ≡ check_setup s }
 {
     if !in_range(s) {
-        return Reply::Range;
+        return Err(Refusal::Range);
     }
     if !acceptable(s) {
-        return Reply::Inequality;
+        return Err(Refusal::Inequality);
     }
-    Reply::Accepted
+    Ok(())
 }
 
 // Whether the record is a setup's: bytes 6 and 7 are zero.
+#[tactic(auto, unfolding(crate::specs::Opening::is_setup))]
 fn is_setup(r: Record) -> bool
     ensures { result ≡ is_setup r }
 {
@@ -73,6 +77,7 @@ fn is_setup(r: Record) -> bool
 }
 
 // The setup that a record holds, whatever its kind.
+#[tactic(auto, unfolding(crate::specs::Opening::read_setup))]
 fn read_setup(r: Record) -> Setup
     ensures { result ≡ read_setup r }
 {
@@ -86,15 +91,16 @@ fn read_setup(r: Record) -> Setup
 }
 
 // Whether the bytes begin with an acceptable setup's record.
+#[tactic(auto, unfolding(crate::specs::Opening::check_head))]
 pub fn check_head(bytes: &[u8]) -> Reply
     ensures { result ≡ check_head bytes.now }
 {
     if bytes.len() < Run::RECORD {
-        return Reply::Length;
+        return Err(Refusal::Length);
     }
     let r = record::record_at(bytes, SETUP_AT);
     if !is_setup(r) {
-        return Reply::Malformed(SETUP_PLACE);
+        return Err(Refusal::Malformed(SETUP_PLACE));
     }
     check_setup(read_setup(r))
 }
@@ -121,13 +127,14 @@ fn is_default(s: Setup, r: Record) -> bool
 }
 
 // Whether record 1 is a default, and one that the setup of record 0 may have.
+#[tactic(auto, unfolding(crate::specs::Opening::check_default))]
 pub fn check_default(bytes: &[u8]) -> Reply
     ensures { result ≡ check_default bytes.now }
 {
     let s = setup_in(bytes);
     let r = record::record_at(bytes, DEFAULT_AT);
     if !is_default(s, r) {
-        return Reply::Malformed(DEFAULT_PLACE);
+        return Err(Refusal::Malformed(DEFAULT_PLACE));
     }
-    Reply::Accepted
+    Ok(())
 }

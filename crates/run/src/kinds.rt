@@ -1,4 +1,5 @@
-// The kinds of records, by the names that the header has for them (rule 2.4).
+// The kinds of records, by the names that the header has for them (rule 2.4). Bytes and no enum: a record may be of any
+// kind, and `is_plain`, `check_block`, `plain` and `put_record` promise for each.
 
 pub const SETUP: u8 = 1; // openings
 

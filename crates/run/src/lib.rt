@@ -1,6 +1,8 @@
 // The run: its type and constants, openings read, and a tape in its two parts (rules 1 to 3, 5, 11 and 13).
 #![tactic(auto)]
 
+pub mod each; // loops that stand once
+pub mod reply; // what the judge replies
 pub mod kinds; // the kinds of records
 pub mod record; // records of 8 bytes
 pub mod block; // a record for each station
@@ -9,14 +11,15 @@ pub mod opening; // openings read
 pub mod tape; // a tape's two parts
 
 ghost use Rattle.std.specs.Prelude.{◌≡◌};
-ghost use Rattle.run.specs.Reply.{number_of, place_of};
-ghost use Rattle.run.specs.Run.{idle};
-ghost use Rattle.run.specs.Opening.{unopened};
+ghost use Rattle.run.specs.Run.{idle, station_at};
+ghost use Rattle.run.specs.Opening.{unopened, opened};
 
 use limits::Setup;
+pub use reply::{Refusal, Reply};
 
 // A run: its stations' estimates, votes and decisions beside the setup, the default and the clock (rounds accepted).
-#[derive(Clone, Copy)]
+// Flags beside numbers, no Options: a run handed in may hold a number beside "?", which `rules::sound` refuses (rule 5.9).
+#[derive(Clone, Copy, PartialEq, Eq)]
 pub struct Run {
     pub setup: Setup,
     pub default: u32,
@@ -37,6 +40,7 @@ impl Run {
     pub const RECORD: usize = 8;
 
     // All zero, all "?", all undecided.
+    #[tactic(auto, unfolding(crate::specs::Run::idle, crate::specs::Run::run_to, crate::specs::Filled::filled, crate::specs::Filled::tabulate))]
     pub fn idle() -> Run
         ensures { result ≡ idle }
     {
@@ -58,10 +62,27 @@ impl Run {
             rounds: [0; Run::STATIONS],
         }
     }
+
+    // What stands at place i of the arrays, and nothing where they have no such place.
+    pub fn station(&self, i: usize) -> Station
+        ensures { result ≡ station_at self.now i }
+    {
+        if i >= Run::STATIONS {
+            return Station::default();
+        }
+        Station {
+            estimate: self.estimates[i],
+            voted: self.voted[i],
+            vote: self.votes[i],
+            decided: self.decided[i],
+            decision: self.decisions[i],
+            round: self.rounds[i],
+        }
+    }
 }
 
-// What a run holds of one station.
-#[derive(Clone, Copy)]
+// What a run holds of one station, a number beside "?" or undecided included.
+#[derive(Clone, Copy, Debug, Default, PartialEq, Eq)]
 pub struct Station {
     pub estimate: u32,
     pub voted: bool,
@@ -69,60 +90,6 @@ pub struct Station {
     pub decided: bool,
     pub decision: u32,
     pub round: u32,
-}
-
-// What the judge replies, with the place where the number has one.
-#[derive(Clone, Copy)]
-pub enum Reply {
-    Accepted,
-    Length,
-    Malformed(u32),
-    Range,
-    Inequality,
-    Query(u32),
-    Altered(u32),
-    Unsafe(u32),
-    Full,
-    Buffer,
-    Rules(u32),
-}
-
-impl Reply {
-    pub fn number(self) -> u32
-        ensures { result ≡ number_of self }
-    {
-        match self {
-            Reply::Accepted => 0,
-            Reply::Length => 1,
-            Reply::Malformed(_) => 2,
-            Reply::Range => 3,
-            Reply::Inequality => 4,
-            Reply::Query(_) => 5,
-            Reply::Altered(_) => 6,
-            Reply::Unsafe(_) => 7,
-            Reply::Full => 8,
-            Reply::Buffer => 9,
-            Reply::Rules(_) => 10,
-        }
-    }
-
-    pub fn place(self) -> u32
-        ensures { result ≡ place_of self }
-    {
-        match self {
-            Reply::Malformed(at) => at,
-            Reply::Query(at) => at,
-            Reply::Altered(at) => at,
-            Reply::Unsafe(at) => at,
-            Reply::Rules(at) => at,
-            Reply::Accepted => 0,
-            Reply::Length => 0,
-            Reply::Range => 0,
-            Reply::Inequality => 0,
-            Reply::Full => 0,
-            Reply::Buffer => 0,
-        }
-    }
 }
 
 // What opening or loading answers: the run, idle where it is refused.
@@ -134,12 +101,24 @@ pub struct Opened {
 
 impl Opened {
     // The idle run, with why.
+    #[tactic(auto, unfolding(crate::specs::Opening::unopened))]
     pub fn none(reply: Reply) -> Opened
         ensures { result ≡ unopened reply }
     {
         Opened {
             reply,
             run: Run::idle(),
+        }
+    }
+}
+
+impl From<Result<Run, Refusal>> for Opened {
+    ghost from_gives = { λ read answer. answer ≡ opened read };
+
+    fn from(read: Result<Run, Refusal>) -> Opened {
+        match read {
+            Ok(run) => Opened { reply: Ok(()), run },
+            Err(refusal) => Opened::none(Err(refusal)),
         }
     }
 }

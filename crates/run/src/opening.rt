@@ -3,13 +3,14 @@ ghost use Rattle.std.specs.Prelude.{◌≡◌, true};
 ghost use Rattle.run.specs.Opening.{
   opening_length,
   check_opening,
+  opened,
   run_from,
   read_opening,
   starts_end,
 };
 
 use super::block::Shape;
-use super::{Opened, Reply, Run, block, head, kinds};
+use super::{Opened, Refusal, Reply, Run, block, head, kinds};
 use limits::Setup;
 
 pub const STARTS: u16 = 2; // where the starts begin
@@ -24,25 +25,21 @@ pub fn opening_length(n: u8) -> usize
 }
 
 // What an opening is refused with, or that it is accepted.
+#[tactic(auto, using(crate::proofs::Asked::handed, crate::proofs::Asked::stops), unfolding(crate::specs::Opening::check_opening))]
 fn check_opening(bytes: &[u8]) -> Reply
     ensures { result ≡ check_opening bytes.now }
 {
-    let head = head::check_head(bytes);
-    if head.number() != 0 {
-        return head;
-    }
+    head::check_head(bytes)?;
     let n = head::setup_in(bytes).n;
     if bytes.len() != opening_length(n) {
-        return Reply::Length;
+        return Err(Refusal::Length);
     }
-    let default = head::check_default(bytes);
-    if default.number() != 0 {
-        return default;
-    }
+    head::check_default(bytes)?;
     block::check_block(bytes, STARTS, n, Shape::Number(kinds::START))
 }
 
 // The run that stands at its starts.
+#[tactic(auto, using(crate::proofs::Openings::run_from_is))]
 fn run_from(setup: Setup, default: u32, starts: [u32; Run::STATIONS]) -> Run
     requires { starts_end setup starts ≡ true }
     ensures { result ≡ run_from setup default starts }
@@ -60,21 +57,22 @@ fn run_from(setup: Setup, default: u32, starts: [u32; Run::STATIONS]) -> Run
     }
 }
 
+// The run that an opening gives.
+#[tactic(auto, using(crate::proofs::Asked::handed, crate::proofs::Asked::stops, crate::proofs::Openings::starts_in_end), unfolding(crate::specs::Opening::read_opening))]
+fn read(bytes: &[u8]) -> Result<Run, Refusal>
+    ensures { opened result ≡ read_opening bytes.now }
+{
+    check_opening(bytes)?;
+    let setup = head::setup_in(bytes);
+    let starts = block::numbers_in(bytes, STARTS, setup.n);
+    Ok(run_from(setup, head::default_in(bytes), starts))
+}
+
 impl Run {
     // Reads an opening: the run at its starts, or the idle run where the opening is refused.
     pub fn open(bytes: &[u8]) -> Opened
         ensures { result ≡ read_opening bytes.now }
     {
-        let reply = check_opening(bytes);
-        if reply.number() != 0 {
-            return Opened::none(reply);
-        }
-        let setup = head::setup_in(bytes);
-        let default = head::default_in(bytes);
-        let starts = block::numbers_in(bytes, STARTS, setup.n);
-        Opened {
-            reply,
-            run: run_from(setup, default, starts),
-        }
+        Opened::from(read(bytes))
     }
 }

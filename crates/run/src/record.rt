@@ -1,39 +1,17 @@
 // Records of 8 bytes, in which tapes and images are written (rules 2): one is read from a slice.
-ghost use Rattle.std.specs.Prelude.{◌≡◌, ◌+◌, ◌*◌};
-ghost use Rattle.run.specs.Record.{blank, record_at};
+ghost use Rattle.std.specs.Prelude.{◌≡◌};
+ghost use Rattle.run.specs.Record.{record_at};
 
 use super::Run;
 
 // A record's bytes in order: the kind, three bytes, and a number of four.
-#[derive(Clone, Copy)]
+#[derive(Clone, Copy, Default)]
 pub struct Record {
     pub kind: u8,
     pub first: u8,
     pub second: u8,
     pub third: u8,
     pub number: u32,
-}
-
-impl Record {
-    // All zero.
-    fn blank() -> Record
-        ensures { result ≡ blank }
-    {
-        Record {
-            kind: 0,
-            first: 0,
-            second: 0,
-            third: 0,
-            number: 0,
-        }
-    }
-}
-
-// The number of four bytes, the lowest first.
-fn number_of(a: u8, b: u8, c: u8, d: u8) -> u32
-    ensures { result ≡ a + 256 * (b + 256 * (c + 256 * d)) }
-{
-    (a as u32) + 256 * ((b as u32) + 256 * ((c as u32) + 256 * (d as u32)))
 }
 
 // Record i of the slice, blank where the slice has no such whole record.
@@ -47,9 +25,14 @@ pub fn record_at(bytes: &[u8], i: usize) -> Record
             first: bytes[at + 1],
             second: bytes[at + 2],
             third: bytes[at + 3],
-            number: number_of(bytes[at + 4], bytes[at + 5], bytes[at + 6], bytes[at + 7]),
+            number: u32::from_le_bytes([
+                bytes[at + 4],
+                bytes[at + 5],
+                bytes[at + 6],
+                bytes[at + 7],
+            ]),
         }
     } else {
-        Record::blank()
+        Record::default()
     }
 }

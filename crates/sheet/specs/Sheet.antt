@@ -20,9 +20,9 @@ use Rattle.std.specs.Prelude.{
   set,
   replicate,
 }
-use Rattle.std.proofs.Math.Option.{Option, none, some}
+use Rattle.std.specs.Prelude.{Option, None, Some}
 use Rattle.paper.specs.Stations.{one}
-use Rattle.run.specs.declared.Reply.{Reply}
+use Rattle.run.specs.Reply.{Reply}
 use Rattle.limits.specs.declared.Setup.{Setup}
 use Rattle.run.specs.declared.Run.{Run}
 use Rattle.run.specs.Opening.{opening, read_opening}
@@ -89,7 +89,7 @@ unfoldable pub answers : Expected → Stepped → Bool
 unfolding marked
 answers (taken_as rows estimates votes firings) s =
     is_reply s.reply 0 0 && lists s.run.estimates estimates && marked s.run.voted s.run.votes votes
-    && marked s.fires s.fired firings
+    && marked (map is_there s.fired) (map value_or_0 s.fired) firings
 answers (refused_with rows number place) s = is_reply s.reply number place
 
 abbrev rows_of : Expected → Rows
@@ -200,25 +200,25 @@ setups =
 abbrev case_9 : Case
 case_9 =
     runs (A 3 2 2 0) 0 (5 ∷ 5 ∷ 9 ∷ [])
-    (taken_as (all_hear (cells_of (5 ∷ 5 ∷ 9 ∷ []))) (5 ∷ 5 ∷ 5 ∷ []) (all 3 none) (all 3 none)
-    ∷ taken_as (all_hear (cells_of (5 ∷ 5 ∷ 5 ∷ []))) (5 ∷ 5 ∷ 5 ∷ []) (all 3 none) (all 3 (some 5))
-    ∷ taken_as (all_hear (cells_of (5 ∷ 5 ∷ 5 ∷ []))) (5 ∷ 5 ∷ 5 ∷ []) (all 3 none) (all 3 (some 5))
+    (taken_as (all_hear (cells_of (5 ∷ 5 ∷ 9 ∷ []))) (5 ∷ 5 ∷ 5 ∷ []) (all 3 None) (all 3 None)
+    ∷ taken_as (all_hear (cells_of (5 ∷ 5 ∷ 5 ∷ []))) (5 ∷ 5 ∷ 5 ∷ []) (all 3 None) (all 3 (Some 5))
+    ∷ taken_as (all_hear (cells_of (5 ∷ 5 ∷ 5 ∷ []))) (5 ∷ 5 ∷ 5 ∷ []) (all 3 None) (all 3 (Some 5))
     ∷ [])
-    (all 3 (some 5)) (all 3 2)
+    (all 3 (Some 5)) (all 3 2)
 
 -- 10: each value came once, so the smallest is taken, whether it was heard first or not
 abbrev case_10 : ℕ → ℕ → ℕ → Case
 case_10 x y z =
     runs (A 3 2 2 0) 0 (x ∷ y ∷ z ∷ [])
-    (taken_as (all_hear (cells_of (x ∷ y ∷ z ∷ []))) (5 ∷ 5 ∷ 5 ∷ []) (all 3 none) (all 3 none) ∷ [])
-    (all 3 none) (all 3 0)
+    (taken_as (all_hear (cells_of (x ∷ y ∷ z ∷ []))) (5 ∷ 5 ∷ 5 ∷ []) (all 3 None) (all 3 None) ∷ [])
+    (all 3 None) (all 3 0)
 
 -- 11: two frames are not more than T, and station 2 stays where it was
 abbrev case_11 : Case
 case_11 =
     runs (A 3 2 2 0) 0 (5 ∷ 5 ∷ 9 ∷ [])
-    (taken_as (but 2 2 Lost (all_hear (cells_of (5 ∷ 5 ∷ 9 ∷ [])))) (5 ∷ 5 ∷ 9 ∷ []) (all 3 none) (all 3 none) ∷ [])
-    (all 3 none) (all 3 0)
+    (taken_as (but 2 2 Lost (all_hear (cells_of (5 ∷ 5 ∷ 9 ∷ [])))) (5 ∷ 5 ∷ 9 ∷ []) (all 3 None) (all 3 None) ∷ [])
+    (all 3 None) (all 3 0)
 
 -- 12: 8 is heard for 4, everywhere, then at station 0 alone, from two senders: more than alpha. From one sender it is
 -- taken: six of 4 are the commonest but not more than E, so station 0 does not decide, and the others do
@@ -227,18 +227,18 @@ case_12 =
     runs (A 7 6 6 1) 0 (all 7 4)
     (refused_with (all_hear (all 7 (Value 8))) 6 0
     ∷ refused_with (but 0 5 (Value 8) (but 0 6 (Value 8) (all_hear (all 7 (Value 4))))) 6 0
-    ∷ taken_as (but 0 6 (Value 8) (all_hear (all 7 (Value 4)))) (all 7 4) (all 7 none) (none ∷ all 6 (some 4))
+    ∷ taken_as (but 0 6 (Value 8) (all_hear (all 7 (Value 4)))) (all 7 4) (all 7 None) (None ∷ all 6 (Some 4))
     ∷ [])
-    (none ∷ all 6 (some 4)) (0 ∷ all 6 1)
+    (None ∷ all 6 (Some 4)) (0 ∷ all 6 1)
 
 -- 13: one altered value leaves station 2 with five of 3, more than T: it votes as the others do, and the votes decide
 abbrev case_13 : Case
 case_13 =
     runs (U 6 4 4 1) 0 (all 6 3)
-    (taken_as (but 2 5 (Value 7) (all_hear (all 6 (Value 3)))) (all 6 3) (all 6 (some 3)) (all 6 none)
-    ∷ taken_as (all_hear (all 6 (Value 3))) (all 6 3) (all 6 none) (all 6 (some 3))
+    (taken_as (but 2 5 (Value 7) (all_hear (all 6 (Value 3)))) (all 6 3) (all 6 (Some 3)) (all 6 None)
+    ∷ taken_as (all_hear (all 6 (Value 3))) (all 6 3) (all 6 None) (all 6 (Some 3))
     ∷ [])
-    (all 6 (some 3)) (all 6 2)
+    (all 6 (Some 3)) (all 6 2)
 
 -- 14: no start has more than T, so nobody votes, the default is taken, and two rounds later it is decided. With 0 and
 -- with another default; from starts with just T of one value; and where station 0 hears one vote of 7, which is alpha
@@ -246,12 +246,12 @@ case_13 =
 abbrev case_14 : ℕ → List ℕ → Cell → Case
 case_14 default starts c =
     runs (U 6 4 4 1) default starts
-    (taken_as (all_hear (cells_of starts)) starts (all 6 none) (all 6 none)
-    ∷ taken_as (but 0 5 c (all_hear (all 6 Query))) (all 6 default) (all 6 none) (all 6 none)
-    ∷ taken_as (all_hear (all 6 (Value default))) (all 6 default) (all 6 (some default)) (all 6 none)
-    ∷ taken_as (all_hear (all 6 (Value default))) (all 6 default) (all 6 none) (all 6 (some default))
+    (taken_as (all_hear (cells_of starts)) starts (all 6 None) (all 6 None)
+    ∷ taken_as (but 0 5 c (all_hear (all 6 Query))) (all 6 default) (all 6 None) (all 6 None)
+    ∷ taken_as (all_hear (all 6 (Value default))) (all 6 default) (all 6 (Some default)) (all 6 None)
+    ∷ taken_as (all_hear (all 6 (Value default))) (all 6 default) (all 6 None) (all 6 (Some default))
     ∷ [])
-    (all 6 (some default)) (all 6 4)
+    (all 6 (Some default)) (all 6 4)
 
 -- 15: station 3 hears two altered frames, and station 0 too few: 6 is asked of all stations before 7 is asked of any.
 -- Without the altered frames it is 7
@@ -264,15 +264,15 @@ case_15 =
     (refused_with (row_0_loses (but 3 4 (Value 7) (but 3 5 (Value 7) (all_hear (all 6 (Value 3)))))) 6 3
     ∷ refused_with (row_0_loses (all_hear (all 6 (Value 3)))) 7 0
     ∷ [])
-    (all 6 none) (all 6 0)
+    (all 6 None) (all 6 0)
 
 -- station 0 loses its own frame and hears 4 four times, which is more than E and not more than T: it keeps 9 and
 -- decides 4
 abbrev decides_unheld : Case
 decides_unheld =
     runs (A 5 4 3 0) 0 (9 ∷ all 4 4)
-    (taken_as (but 0 0 Lost (all_hear (cells_of (9 ∷ all 4 4)))) (9 ∷ all 4 4) (all 5 none) (all 5 (some 4)) ∷ [])
-    (all 5 (some 4)) (all 5 1)
+    (taken_as (but 0 0 Lost (all_hear (cells_of (9 ∷ all 4 4)))) (9 ∷ all 4 4) (all 5 None) (all 5 (Some 4)) ∷ [])
+    (all 5 (Some 4)) (all 5 1)
 
 -- station 0 hears 4 for the 9 of station 6, which loses all: station 0 decides 4, and six stations hold it, no more
 -- than E
@@ -280,23 +280,23 @@ abbrev few_hold : Case
 few_hold =
     runs (A 7 6 6 1) 0 (all 6 4 ++ 9 ∷ [])
     (taken_as (but 0 6 (Value 4) (set (all_hear (cells_of (all 6 4 ++ 9 ∷ []))) 6 (all 7 Lost))) (all 6 4 ++ 9 ∷ [])
-    (all 7 none) (some 4 ∷ all 6 none)
+    (all 7 None) (Some 4 ∷ all 6 None)
     ∷ [])
-    (some 4 ∷ all 6 none) (1 ∷ all 6 0)
+    (Some 4 ∷ all 6 None) (1 ∷ all 6 0)
 
 -- the most frequent value is taken, though a smaller one was heard
 abbrev most_frequent : Case
 most_frequent =
     runs (A 3 2 2 0) 0 (9 ∷ 9 ∷ 5 ∷ [])
-    (taken_as (all_hear (cells_of (9 ∷ 9 ∷ 5 ∷ []))) (all 3 9) (all 3 none) (all 3 none) ∷ []) (all 3 none) (all 3 0)
+    (taken_as (all_hear (cells_of (9 ∷ 9 ∷ 5 ∷ []))) (all 3 9) (all 3 None) (all 3 None) ∷ []) (all 3 None) (all 3 0)
 
 -- five start with 3, and those who lose one of these do not vote. Two votes are alpha + 1: all take 3. Four are not
 -- more than E, and five are: then all decide in round 2; but not where E is 5
 abbrev some_vote : Setup → Rows → ℕ → ℕ → List Mark → List ℕ → Case
 some_vote setup first cast queries firings rounds =
     runs setup 0 (3 ∷ 3 ∷ 3 ∷ 3 ∷ 3 ∷ 1 ∷ [])
-    (taken_as first (3 ∷ 3 ∷ 3 ∷ 3 ∷ 3 ∷ 1 ∷ []) (all cast (some 3) ++ all queries none) (all 6 none)
-    ∷ taken_as (all_hear (all cast (Value 3) ++ all queries Query)) (all 6 3) (all 6 none) firings
+    (taken_as first (3 ∷ 3 ∷ 3 ∷ 3 ∷ 3 ∷ 1 ∷ []) (all cast (Some 3) ++ all queries None) (all 6 None)
+    ∷ taken_as (all_hear (all cast (Value 3) ++ all queries Query)) (all 6 3) (all 6 None) firings
     ∷ [])
     firings rounds
 
@@ -316,7 +316,7 @@ four_lose = but 2 0 Lost (but 3 0 Lost two_lose)
 abbrev unsafe_at_2 : Case
 unsafe_at_2 =
     runs (U 6 4 4 1) 0 (all 6 3) (refused_with (but 2 1 Lost (but 2 4 Lost (all_hear (all 6 (Value 3))))) 7 2 ∷ [])
-    (all 6 none) (all 6 0)
+    (all 6 None) (all 6 0)
 
 -- A(3,2,2,0) after so many rounds, all at 5, and the round in which all hear that
 abbrev standing : ℕ → Run
@@ -368,8 +368,8 @@ sheet =
     ∷ decides_unheld
     ∷ few_hold
     ∷ most_frequent
-    ∷ some_vote (U 6 4 4 1) four_lose 2 4 (all 6 none) (all 6 0)
-    ∷ some_vote (U 6 4 4 1) two_lose 4 2 (all 6 none) (all 6 0)
-    ∷ some_vote (U 6 4 4 1) one_loses 5 1 (all 6 (some 3)) (all 6 2)
-    ∷ some_vote (U 6 4 5 1) one_loses 5 1 (all 6 none) (all 6 0)
+    ∷ some_vote (U 6 4 4 1) four_lose 2 4 (all 6 None) (all 6 0)
+    ∷ some_vote (U 6 4 4 1) two_lose 4 2 (all 6 None) (all 6 0)
+    ∷ some_vote (U 6 4 4 1) one_loses 5 1 (all 6 (Some 3)) (all 6 2)
+    ∷ some_vote (U 6 4 5 1) one_loses 5 1 (all 6 None) (all 6 0)
     ∷ [])

@@ -9,8 +9,8 @@ use borrow.Author.Tests.{eq-eqb, ne_eqb}
 use lib.ListN.{length}
 use lib.Dec.{eqb}
 use Rattle.run.specs.declared.Run.{Run}
-use Rattle.run.specs.declared.Reply.{Reply}
-use Rattle.run.specs.declared.Reply.TheVariants.{Accepted, Buffer}
+use Rattle.run.specs.Reply.{Reply}
+use Rattle.run.specs.Reply.{Accepted, Buffer}
 use Rattle.run.specs.Reply.{is_accepted, ◌then◌, or_refuse}
 use Rattle.run.specs.Opening.{check_opening, answer}
 use Rattle.run.proofs.Replies.{then_accepted}

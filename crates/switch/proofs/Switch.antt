@@ -6,20 +6,10 @@ use mathlib.Core.List.{List}
 use Prim.Native.Nat.{ℕ, ◌/◌, ◌%◌, ◌^◌, ◌<◌}
 use native.Mathlib.Omega.{arith}
 use Rattle.run.specs.declared.Run.{Run}
-use Rattle.run.specs.declared.Reply.{Reply}
-use Rattle.run.specs.declared.Reply.TheVariants.{
-  Accepted,
-  Length,
-  Malformed,
-  Range,
-  Inequality,
-  Query,
-  Altered,
-  Unsafe,
-  Full,
-  Buffer,
-  Rules,
-}
+use Rattle.std.specs.Prelude.{Ok, Err}
+use Rattle.run.specs.declared.reply.Refusal.TheVariants as refusal
+use Rattle.run.specs.Reply.{Reply}
+use Rattle.run.specs.Reply.{Accepted}
 use Rattle.run.specs.Bytes.{IsBytes}
 use Rattle.run.specs.Reply.{number_of, place_of, is_accepted}
 use Rattle.run.specs.Opening.{check_opening}
@@ -52,17 +42,17 @@ step_unique bytes round r r' out out' p q = (one_answer p.0 q.0, one_answer p.1 
 
 -- ---- the number and the place, read back
 number_small : (r : Reply) → number_of r < 2 ^ 32
-number_small Accepted = omega arith
-number_small Length = omega arith
-number_small (Malformed at) = omega arith
-number_small Range = omega arith
-number_small Inequality = omega arith
-number_small (Query at) = omega arith
-number_small (Altered at) = omega arith
-number_small (Unsafe at) = omega arith
-number_small Full = omega arith
-number_small Buffer = omega arith
-number_small (Rules at) = omega arith
+number_small (Ok accepted) = omega arith
+number_small (Err refusal.Length) = omega arith
+number_small (Err (refusal.Malformed at)) = omega arith
+number_small (Err refusal.Range) = omega arith
+number_small (Err refusal.Inequality) = omega arith
+number_small (Err (refusal.Query at)) = omega arith
+number_small (Err (refusal.Altered at)) = omega arith
+number_small (Err (refusal.Unsafe at)) = omega arith
+number_small (Err refusal.Full) = omega arith
+number_small (Err refusal.Buffer) = omega arith
+number_small (Err (refusal.Rules at)) = omega arith
 
 pub answer_apart : (r : Reply) → (answer_of r % 2 ^ 32 ≡ number_of r) × (answer_of r / 2 ^ 32 ≡ place_of r)
 answer_apart r = (omega (arith, number_small r), omega (arith, number_small r))

@@ -1,8 +1,8 @@
 -- The switch's calls (rules 12.10, 12.11 and 15).
 use Rattle.std.specs.Prelude.{ℕ, ◌+◌, ◌*◌, ◌^◌, cond, List, length, eqb}
 use Rattle.run.specs.declared.Run.{Run}
-use Rattle.run.specs.declared.Reply.{Reply}
-use Rattle.run.specs.declared.Reply.TheVariants.{Buffer}
+use Rattle.run.specs.Reply.{Reply}
+use Rattle.run.specs.Reply.{Buffer}
 use Rattle.run.specs.Reply.{number_of, place_of, is_accepted, ◌then◌, or_refuse}
 use Rattle.run.specs.Opening.{check_opening, read_opening}
 use Rattle.image.specs.Image.{image_length, image, check_image, loaded}

@@ -7,7 +7,7 @@ ghost use Rattle.switch.specs.Switch.{answer_of, open_reply, open_image, step_re
 
 use image::{image_length, load, put_image};
 use judge::step::step;
-use run::{Reply, Run};
+use run::{Refusal, Reply, Run, reply};
 
 const PLACE: u64 = 4294967296; // the place stands above the low 32 bits
 
@@ -15,7 +15,36 @@ const PLACE: u64 = 4294967296; // the place stands above the low 32 bits
 fn answer(reply: Reply) -> u64
     ensures { result ≡ answer_of reply }
 {
-    reply.number() as u64 + PLACE * reply.place() as u64
+    u64::from(reply::number(reply)) + PLACE * u64::from(reply::place(reply))
+}
+
+// The opening's refusals, then 9; else the image of the run is put into the buffer.
+#[tactic(auto, using(run::proofs::Asked::handed, run::proofs::Asked::stops, run::proofs::Openings::opened_reply), unfolding(crate::specs::Switch::open_reply, crate::specs::Switch::open_image))]
+fn open_into(opening: &[u8], image: &mut [u8]) -> Reply
+    ensures reply { result ≡ open_reply opening.now image.old }
+    ensures bytes { image.new ≡ open_image opening.now image.old }
+{
+    let opened = Run::open(opening);
+    opened.reply?;
+    if image.len() != image_length(opened.run.setup.n) {
+        return Err(Refusal::Buffer);
+    }
+    put_image(image, opened.run);
+    Ok(())
+}
+
+// The image's refusals, then the round's; else the image of the next run is put in its place.
+#[tactic(auto, using(run::proofs::Asked::handed, run::proofs::Asked::stops, image::proofs::Images::loaded_reply, judge::proofs::Steps::reply_is), unfolding(crate::specs::Switch::step_reply, crate::specs::Switch::step_image))]
+fn step_in(image: &mut [u8], round: &[u8]) -> Reply
+    ensures reply { result ≡ step_reply image.old round.now }
+    ensures bytes { image.new ≡ step_image image.old round.now }
+{
+    let loaded = load(image);
+    loaded.reply?;
+    let stepped = step(loaded.run, round);
+    stepped.reply?;
+    put_image(image, stepped.run);
+    Ok(())
 }
 
 // Opens a run into a buffer of exactly its image's length: the opening's refusals, then 9. A refusal writes no byte.
@@ -23,18 +52,7 @@ pub fn judge_open(opening: &[u8], image: &mut [u8]) -> u64
     ensures reply { result ≡ answer_of (open_reply opening.now image.old) }
     ensures bytes { image.new ≡ open_image opening.now image.old }
 {
-    let opened = Run::open(opening);
-    let reply = opened.reply;
-    if reply.number() != 0 {
-        return answer(reply);
-    }
-    let run = opened.run;
-    let s = run.setup;
-    if image.len() != image_length(s.n) {
-        return answer(Reply::Buffer);
-    }
-    put_image(image, run);
-    answer(reply)
+    answer(open_into(opening, image))
 }
 
 // Steps an image by one round: the image's refusals, then the round's. An accepted round has it rewritten;
@@ -43,18 +61,5 @@ pub fn judge_step(image: &mut [u8], round: &[u8]) -> u64
     ensures reply { result ≡ answer_of (step_reply image.old round.now) }
     ensures bytes { image.new ≡ step_image image.old round.now }
 {
-    let loaded = load(image);
-    let of_image = loaded.reply;
-    if of_image.number() != 0 {
-        return answer(of_image);
-    }
-    let run = loaded.run;
-    let stepped = step(run, round);
-    let of_round = stepped.reply;
-    if of_round.number() != 0 {
-        return answer(of_round);
-    }
-    let next = stepped.run;
-    put_image(image, next);
-    answer(of_round)
+    answer(step_in(image, round))
 }

@@ -1,186 +1,182 @@
-// What a line says, printed on standard output.
-use limits::Setup;
-use run::{Opened, Reply, Run};
-
-const STDOUT_FILENO: i32 = 1; // standard output
-
-const A: u8 = 1; // the algorithm's byte
-
-pub fn text(bytes: &[u8]) {
-    io::write_all(STDOUT_FILENO, bytes);
-}
-
-// A word and the number after it.
-pub fn word(before: &[u8], number: u32) {
-    text(before);
-    io::print_decimal(STDOUT_FILENO, number as u64);
-}
+// What a line says, as text.
+use limits::{A, Setup};
+use run::{Opened, Reply, Run, reply};
+use std::fmt;
 
 // `2 at 5`
-pub fn answer(reply: Reply) {
-    word(b"", reply.number());
-    word(b" at ", reply.place());
+#[derive(Clone, Copy)]
+pub struct Answer(pub Reply);
+
+impl fmt::Display for Answer {
+    fn fmt<W: fmt::Write>(&self, f: &mut fmt::Formatter<W>) -> fmt::Result {
+        write!(f, "{} at {}", reply::number(self.0), reply::place(self.0))
+    }
 }
 
 // `A n=3 T=2 E=2 alpha=0`
-pub fn parameters(s: Setup) {
-    if s.algorithm == A {
-        text(b"A");
-    } else {
-        text(b"U");
+#[derive(Clone, Copy)]
+pub struct Parameters(pub Setup);
+
+impl fmt::Display for Parameters {
+    fn fmt<W: fmt::Write>(&self, f: &mut fmt::Formatter<W>) -> fmt::Result {
+        let Setup {
+            algorithm,
+            n,
+            t,
+            e,
+            alpha,
+        } = self.0;
+        let name = if algorithm == A { 'A' } else { 'U' };
+        write!(f, "{name} n={n} T={t} E={e} alpha={alpha}")
     }
-    word(b" n=", s.n as u32);
-    word(b" T=", s.t as u32);
-    word(b" E=", s.e as u32);
-    word(b" alpha=", s.alpha as u32);
 }
 
 // ` 7`, or a sign where there is no number.
-pub fn maybe(there: bool, number: u32, sign: &[u8]) {
-    if there {
-        word(b" ", number);
-    } else {
-        text(sign);
-    }
-}
-
-// What a line says of each station.
 #[derive(Clone, Copy)]
-enum Part {
-    Hold,
-    Vote,
-    Decide,
-}
+pub struct Maybe(pub Option<u32>, pub char);
 
-// ` 7`, ` ?` or ` 7@2`
-fn station(run: Run, part: Part, i: usize) {
-    if i >= Run::STATIONS {
-        return;
-    }
-    match part {
-        Part::Hold => word(b" ", run.estimates[i]),
-        Part::Vote => maybe(run.voted[i], run.votes[i], b" ?"),
-        Part::Decide => {
-            maybe(run.decided[i], run.decisions[i], b" -");
-            if run.decided[i] {
-                word(b"@", run.rounds[i]);
-            }
+impl fmt::Display for Maybe {
+    fn fmt<W: fmt::Write>(&self, f: &mut fmt::Formatter<W>) -> fmt::Result {
+        match self.0 {
+            Some(number) => write!(f, " {number}"),
+            None => write!(f, " {}", self.1),
         }
     }
 }
 
-fn stations(run: Run, part: Part) {
-    let n = run.setup.n as usize;
-    let mut i: usize = 0;
-    while i < n {
-        station(run, part, i);
-        i += 1;
+// ` 5 5 5`: what each station holds.
+#[derive(Clone, Copy)]
+struct Estimates<'a>(&'a Run);
+
+impl fmt::Display for Estimates<'_> {
+    fn fmt<W: fmt::Write>(&self, f: &mut fmt::Formatter<W>) -> fmt::Result {
+        let run = self.0;
+        for estimate in run.estimates.iter().take(run.setup.n as usize) {
+            write!(f, " {estimate}")?;
+        }
+        Ok(())
+    }
+}
+
+// ` ? 7 ?`
+#[derive(Clone, Copy)]
+struct Votes<'a>(&'a Run);
+
+impl fmt::Display for Votes<'_> {
+    fn fmt<W: fmt::Write>(&self, f: &mut fmt::Formatter<W>) -> fmt::Result {
+        let run = self.0;
+        let stations = run.voted.iter().zip(&run.votes);
+        for (voted, vote) in stations.take(run.setup.n as usize) {
+            write!(f, "{}", Maybe(voted.then_some(*vote), '?'))?;
+        }
+        Ok(())
+    }
+}
+
+// ` 5@2 - -`
+#[derive(Clone, Copy)]
+struct Decisions<'a>(&'a Run);
+
+impl fmt::Display for Decisions<'_> {
+    fn fmt<W: fmt::Write>(&self, f: &mut fmt::Formatter<W>) -> fmt::Result {
+        let run = self.0;
+        let decisions = run.decisions.iter().zip(&run.rounds);
+        let stations = run.decided.iter().zip(decisions);
+        for (decided, (decision, round)) in stations.take(run.setup.n as usize) {
+            if *decided {
+                write!(f, " {decision}@{round}")?;
+            } else {
+                f.write_str(" -")?;
+            }
+        }
+        Ok(())
     }
 }
 
 // `A n=3 T=2 E=2 alpha=0 default 0 clock 2 hold 5 5 5 vote ? ? ? decide 5@2 5@2 -`
-fn whole(run: Run) {
-    parameters(run.setup);
-    word(b" default ", run.default);
-    word(b" clock ", run.clock);
-    text(b" hold");
-    stations(run, Part::Hold);
-    text(b" vote");
-    stations(run, Part::Vote);
-    text(b" decide");
-    stations(run, Part::Decide);
+#[derive(Clone, Copy)]
+struct Whole<'a>(&'a Run);
+
+impl fmt::Display for Whole<'_> {
+    fn fmt<W: fmt::Write>(&self, f: &mut fmt::Formatter<W>) -> fmt::Result {
+        let run = self.0;
+        let (default, clock) = (run.default, run.clock);
+        let (hold, vote, decide) = (Estimates(run), Votes(run), Decisions(run));
+        let setup = Parameters(run.setup);
+        write!(f, "{setup} default {default} clock {clock}")?;
+        write!(f, " hold{hold} vote{vote} decide{decide}")
+    }
 }
 
 // A run that keeps the rules, or only that it is one that doesn't.
-pub fn held(run: Run) {
-    if rules::sound(run) {
-        whole(run);
-    } else {
-        text(b"run");
-    }
-}
+#[derive(Clone, Copy)]
+pub struct Held<'a>(pub &'a Run);
 
-fn same_setup(a: Setup, b: Setup) -> bool {
-    a.algorithm == b.algorithm && (a.n == b.n && (a.t == b.t && (a.e == b.e && a.alpha == b.alpha)))
-}
-
-fn same_station(a: Run, b: Run, i: usize) -> bool {
-    if i >= Run::STATIONS {
-        return true;
-    }
-    a.estimates[i] == b.estimates[i]
-        && (a.voted[i] == b.voted[i]
-            && (a.votes[i] == b.votes[i]
-                && (a.decided[i] == b.decided[i]
-                    && (a.decisions[i] == b.decisions[i] && a.rounds[i] == b.rounds[i]))))
-}
-
-// Whether two runs agree in all that they hold.
-pub fn same(a: Run, b: Run) -> bool {
-    if !same_setup(a.setup, b.setup) || a.default != b.default || a.clock != b.clock {
-        return false;
-    }
-    let mut i: usize = 0;
-    while i < Run::STATIONS {
-        if !same_station(a, b, i) {
-            return false;
+impl fmt::Display for Held<'_> {
+    fn fmt<W: fmt::Write>(&self, f: &mut fmt::Formatter<W>) -> fmt::Result {
+        if rules::sound(*self.0) {
+            write!(f, "{}", Whole(self.0))
+        } else {
+            f.write_str("run")
         }
-        i += 1;
     }
-    true
 }
 
 // `0 at 0 A n=3 T=2 ..`, or `2 at 1 idle`
-pub fn opened(answered: Opened) {
-    let reply = answered.reply;
-    let run = answered.run;
-    answer(reply);
-    text(b" ");
-    if same(run, Run::idle()) {
-        text(b"idle");
-    } else {
-        held(run);
-    }
-}
+#[derive(Clone, Copy)]
+pub struct OpenedRun(pub Opened);
 
-fn digits(byte: u8) {
-    io::print_hex(STDOUT_FILENO, byte as u64, 2);
+impl fmt::Display for OpenedRun {
+    fn fmt<W: fmt::Write>(&self, f: &mut fmt::Formatter<W>) -> fmt::Result {
+        let run = &self.0.run;
+        write!(f, "{} ", Answer(self.0.reply))?;
+        if *run == Run::idle() {
+            f.write_str("idle")
+        } else {
+            write!(f, "{}", Held(run))
+        }
+    }
 }
 
 // Two digits for each byte, or `-` where there is none.
-pub fn hex(bytes: &[u8]) {
-    if bytes.len() == 0 {
-        text(b"-");
-    }
-    let mut i: usize = 0;
-    while i < bytes.len() {
-        digits(bytes[i]);
-        i += 1;
+#[derive(Clone, Copy)]
+pub struct Hex<'a>(pub &'a [u8]);
+
+impl fmt::Display for Hex<'_> {
+    fn fmt<W: fmt::Write>(&self, f: &mut fmt::Formatter<W>) -> fmt::Result {
+        if self.0.is_empty() {
+            return f.write_str("-");
+        }
+        for byte in self.0 {
+            write!(f, "{byte:02x}")?;
+        }
+        Ok(())
     }
 }
 
 // `9 at 0 bytes a0a1a2`
-pub fn written(reply: Reply, bytes: &[u8]) {
-    answer(reply);
-    text(b" bytes ");
-    hex(bytes);
-}
+#[derive(Clone, Copy)]
+pub struct Written<'a>(pub Reply, pub &'a [u8]);
 
-// ` 1f`
-fn set(masks: [u32; Run::STATIONS], i: usize) {
-    if i < Run::STATIONS {
-        text(b" ");
-        io::print_hex(STDOUT_FILENO, masks[i] as u64, 1);
+impl fmt::Display for Written<'_> {
+    fn fmt<W: fmt::Write>(&self, f: &mut fmt::Formatter<W>) -> fmt::Result {
+        write!(f, "{} bytes {}", Answer(self.0), Hex(self.1))
     }
 }
 
-// ` ho 7 7 6`: a word, and the sets of the first n receivers in hex.
-pub fn sets(before: &[u8], n: u8, masks: [u32; Run::STATIONS]) {
-    text(before);
-    let last = n as usize;
-    let mut i: usize = 0;
-    while i < last {
-        set(masks, i);
-        i += 1;
+// ` 7 7 6`: the sets of the first n receivers in hex.
+#[derive(Clone, Copy)]
+pub struct Sets<'a> {
+    pub n: u8,
+    pub masks: &'a [u32; Run::STATIONS],
+}
+
+impl fmt::Display for Sets<'_> {
+    fn fmt<W: fmt::Write>(&self, f: &mut fmt::Formatter<W>) -> fmt::Result {
+        let masks = self.masks;
+        for mask in masks.iter().take(self.n as usize) {
+            write!(f, " {mask:x}")?;
+        }
+        Ok(())
     }
 }

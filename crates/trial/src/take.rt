@@ -1,105 +1,104 @@
-// What a frame holds, read from standard input. Numbers are little-endian. A byte past the end of the input is 0.
-ghost use Rattle.std.specs.Prelude.{◌≤◌, length};
-
-use super::print;
+// What a frame holds, read from the input. Numbers are little-endian. A byte past the end of the input is 0, but in a
+// payload it is what earlier payloads left in the room for them, 0 at first.
 use limits::Setup;
 use run::Run;
+use std::io::Read;
+use std::{array, io};
 
-const STDIN_FILENO: i32 = 0; // standard input
+const SPACE: usize = u16::MAX as usize; // no payload has more
 
-pub fn byte() -> u8 {
-    let mut bytes = [0u8; 1];
-    io::read_full(STDIN_FILENO, &mut bytes);
-    bytes[0]
+pub const LABEL: usize = u8::MAX as usize; // no label has more
+
+// The frames of an input, and room for a payload.
+#[derive(Drop)]
+pub struct Frames<R> {
+    input: R,
+    space: [u8; SPACE],
 }
 
-// The number of four bytes, the lowest first.
-fn number_of(a: u8, b: u8, c: u8, d: u8) -> u32 {
-    (a as u32) + 256 * ((b as u32) + 256 * ((c as u32) + 256 * (d as u32)))
+// Reads until the bytes are full; where the input ends first, or can't be read on, those behind its end stay as they are.
+fn fill<R: Read>(input: &mut R, mut bytes: &mut [u8]) {
+    let _ = io::copy(&mut input.take(bytes.len() as u64), &mut bytes);
 }
 
-pub fn number() -> u32 {
-    let mut bytes = [0u8; 4];
-    io::read_full(STDIN_FILENO, &mut bytes);
-    number_of(bytes[0], bytes[1], bytes[2], bytes[3])
-}
-
-// A number for each station.
-pub fn numbers() -> [u32; Run::STATIONS] {
-    let mut numbers = [0; Run::STATIONS];
-    let mut i: usize = 0;
-    while i < Run::STATIONS {
-        numbers[i] = number();
-        i += 1;
+impl<R: Read + Drop> Frames<R> {
+    pub fn new(input: R) -> Frames<R> {
+        Frames {
+            input,
+            space: [0; SPACE],
+        }
     }
-    numbers
-}
 
-// A byte for each station, 0 for false.
-pub fn flags() -> [bool; Run::STATIONS] {
-    let mut flags = [false; Run::STATIONS];
-    let mut i: usize = 0;
-    while i < Run::STATIONS {
-        flags[i] = byte() != 0;
-        i += 1;
+    fn bytes<const N: usize>(&mut self) -> [u8; N] {
+        let mut bytes = [0; N];
+        fill(&mut self.input, &mut bytes);
+        bytes
     }
-    flags
-}
 
-pub fn parameters() -> Setup {
-    Setup {
-        algorithm: byte(),
-        n: byte(),
-        t: byte(),
-        e: byte(),
-        alpha: byte(),
+    pub fn byte(&mut self) -> u8 {
+        let [byte]: [u8; 1] = self.bytes();
+        byte
     }
-}
 
-// A run as it stands, of which nothing says that it keeps the rules: 589 bytes.
-pub fn whole() -> Run {
-    Run {
-        setup: parameters(),
-        default: number(),
-        clock: number(),
-        estimates: numbers(),
-        voted: flags(),
-        votes: numbers(),
-        decided: flags(),
-        decisions: numbers(),
-        rounds: numbers(),
+    pub fn number(&mut self) -> u32 {
+        u32::from_le_bytes(self.bytes())
     }
-}
 
-// Puts a payload, a length of two bytes and so many bytes, at the start of the buffer, and answers the length; 0 where
-// the buffer is shorter.
-pub fn payload(buffer: &mut [u8]) -> usize
-    ensures { result ≤ length buffer.new }
-{
-    let low = byte();
-    let high = byte();
-    let n = low as usize + 256 * (high as usize);
-    if n > buffer.len() {
-        return 0;
+    // A number for each station.
+    pub fn numbers(&mut self) -> [u32; Run::STATIONS] {
+        array::from_fn(|_| self.number())
     }
-    io::read_full(STDIN_FILENO, &mut buffer[0..n]);
-    n
-}
 
-// Fills the bytes and prints them.
-fn echo(bytes: &mut [u8]) {
-    io::read_full(STDIN_FILENO, bytes);
-    print::text(bytes);
-}
-
-// Begins a line with the frame's label, a length of one byte and so many bytes; false where the input has ended.
-pub fn label() -> bool {
-    let mut bytes = [0u8; 256];
-    let n = byte() as usize;
-    if n == 0 {
-        return false;
+    // A byte for each station, 0 for false.
+    pub fn flags(&mut self) -> [bool; Run::STATIONS] {
+        array::from_fn(|_| self.byte() != 0)
     }
-    echo(&mut bytes[0..n]);
-    print::text(b": ");
-    true
+
+    pub fn parameters(&mut self) -> Setup {
+        let [algorithm, n, t, e, alpha]: [u8; 5] = self.bytes();
+        Setup {
+            algorithm,
+            n,
+            t,
+            e,
+            alpha,
+        }
+    }
+
+    // A run as it stands, of which nothing says that it keeps the rules: 589 bytes.
+    pub fn run(&mut self) -> Run {
+        Run {
+            setup: self.parameters(),
+            default: self.number(),
+            clock: self.number(),
+            estimates: self.numbers(),
+            voted: self.flags(),
+            votes: self.numbers(),
+            decided: self.flags(),
+            decisions: self.numbers(),
+            rounds: self.numbers(),
+        }
+    }
+
+    // A payload: a length of two bytes and so many bytes, in the room for them.
+    pub fn payload(&mut self) -> &mut [u8] {
+        let length = u16::from_le_bytes(self.bytes()) as usize;
+        let space = &mut self.space[..];
+        fill(&mut self.input, &mut space[..length]);
+        // Lent anew: a loan to the caller has to begin after the input's last use.
+        let space = &mut self.space[..];
+        &mut space[..length]
+    }
+
+    // The label that a frame begins with, a length of one byte and so many bytes, in the room handed in; none where the
+    // input has ended.
+    pub fn label<'a>(&mut self, room: &'a mut [u8; LABEL]) -> Option<&'a [u8]> {
+        let length = self.byte();
+        if length == 0 {
+            return None;
+        }
+        let label = &mut room[..length as usize];
+        fill(&mut self.input, label);
+        Some(label)
+    }
 }

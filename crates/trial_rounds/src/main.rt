@@ -3,141 +3,105 @@
 #![tactic(auto)]
 
 use hearing::surveys;
-use round::{Cell, Matrix, Slot, read};
+use round::{Cell, Matrix, read};
 use run::Run;
-use trial::{print, take};
+use std::io::Read;
+use std::{array, fmt, io};
+use trial::NoSuchOperation;
+use trial::print::{Answer, Sets, Written};
+use trial::take::Frames;
 
-const FRAMES: u32 = 100000; // no more than these are read
-
-// The numbers of the operations.
-const READ_ROUND: u8 = 6;
-
-const WRITE_ROUND: u8 = 7;
-
-const SURVEY: u8 = 8;
-
-const STATIONS: u32 = Run::STATIONS as u32;
-
-// ` 0.2`: the receiver and the sender of cell number k.
-fn place(k: u32) {
-    print::word(b" ", k / STATIONS);
-    print::word(b".", k % STATIONS);
+#[derive(Clone, Copy)]
+enum Operation {
+    ReadRound,
+    WriteRound,
+    Survey,
 }
 
-// ` 0.2=7` or ` 0.2=?`, and nothing of a cell that is lost; whether it is not.
-fn cell(k: u32, c: Cell) -> bool {
-    match c {
-        Cell::Lost => false,
-        Cell::Value(value) => {
-            place(k);
-            print::word(b"=", value);
-            true
-        }
-        Cell::Query => {
-            place(k);
-            print::text(b"=?");
-            true
+impl TryFrom<u8> for Operation {
+    type Error = NoSuchOperation;
+
+    fn try_from(number: u8) -> Result<Operation, NoSuchOperation> {
+        match number {
+            6 => Ok(Operation::ReadRound),
+            7 => Ok(Operation::WriteRound),
+            8 => Ok(Operation::Survey),
+            _ => Err(NoSuchOperation),
         }
     }
 }
 
-// The cells that are not lost; whether there are any.
-fn cells(matrix: Matrix) -> bool {
-    let mut any = false;
-    let mut k: usize = 0;
-    while k < Matrix::CELLS {
-        let slot = matrix.slots[k];
-        let c = slot.cell;
-        any = cell(k as u32, c) | any;
-        k += 1;
-    }
-    any
-}
+// ` 0.2=7 1.0=?`: the cells that are not lost, each with its receiver and its sender, or ` none`.
+#[derive(Clone, Copy)]
+struct Cells<'a>(&'a Matrix);
 
-fn read_round(space: &mut [u8]) {
-    let run = take::whole();
-    let n = take::payload(space);
-    let reading = read::read_round(run, &space[0..n]);
-    let reply = reading.reply;
-    print::answer(reply);
-    print::text(b" cells");
-    let matrix = reading.matrix;
-    if !cells(matrix) {
-        print::text(b" none");
+impl fmt::Display for Cells<'_> {
+    fn fmt<W: fmt::Write>(&self, f: &mut fmt::Formatter<W>) -> fmt::Result {
+        let matrix = self.0;
+        if matrix.cells.iter().all(|cell| matches!(cell, Cell::Lost)) {
+            return f.write_str(" none");
+        }
+        for (k, cell) in matrix.cells.iter().enumerate() {
+            let (receiver, sender) = (k / Run::STATIONS, k % Run::STATIONS);
+            match cell {
+                Cell::Lost => {}
+                Cell::Value(value) => write!(f, " {receiver}.{sender}={value}")?,
+                Cell::Query => write!(f, " {receiver}.{sender}=?")?,
+            }
+        }
+        Ok(())
     }
 }
 
 // A cell: a byte for its sort and a number.
-fn slot() -> Slot {
-    let sort = take::byte();
-    let value = take::number();
+fn cell(frames: &mut Frames<impl Read + Drop>) -> Cell {
+    let sort = frames.byte();
+    let value = frames.number();
     match sort {
-        0 => Slot { cell: Cell::Lost },
-        1 => Slot {
-            cell: Cell::Value(value),
-        },
-        _ => Slot { cell: Cell::Query },
+        0 => Cell::Lost,
+        1 => Cell::Value(value),
+        _ => Cell::Query,
     }
 }
 
-fn matrix() -> Matrix {
-    let mut slots = [Slot { cell: Cell::Lost }; Matrix::CELLS];
-    let mut k: usize = 0;
-    while k < Matrix::CELLS {
-        slots[k] = slot();
-        k += 1;
-    }
-    Matrix { slots }
+fn matrix(frames: &mut Frames<impl Read + Drop>) -> Matrix {
+    let cells = array::from_fn(|_| cell(frames));
+    Matrix { cells }
 }
 
-fn put_round(run: Run, matrix: Matrix, out: &mut [u8]) {
+fn read_round(rt: &impl Print, frames: &mut Frames<impl Read + Drop>) -> io::Result<()> {
+    let run = frames.run();
+    let reading = read::read_round(run, frames.payload());
+    print!(rt; "{} cells{}", Answer(reading.reply), Cells(&reading.matrix))
+}
+
+fn write_round(rt: &impl Print, frames: &mut Frames<impl Read + Drop>) -> io::Result<()> {
+    let run = frames.run();
+    let matrix = matrix(frames);
+    let out = frames.payload();
     let reply = writing::write_round(run, matrix, out);
-    print::written(reply, out);
+    print!(rt; "{}", Written(reply, out))
 }
 
-fn write_round(space: &mut [u8]) {
-    let run = take::whole();
-    let matrix = matrix();
-    let n = take::payload(space);
-    put_round(run, matrix, &mut space[0..n]);
+fn survey(rt: &impl Print, frames: &mut Frames<impl Read + Drop>) -> io::Result<()> {
+    let run = frames.run();
+    let survey = surveys::survey(run, frames.payload());
+    let ho = Sets {
+        n: Run::STATIONS as u8,
+        masks: &survey.ho,
+    };
+    let sho = Sets {
+        n: Run::STATIONS as u8,
+        masks: &survey.sho,
+    };
+    print!(rt; "{} ho{ho} sho{sho}", Answer(survey.reply))
 }
 
-fn survey(space: &mut [u8]) {
-    let run = take::whole();
-    let n = take::payload(space);
-    let survey = surveys::survey(run, &space[0..n]);
-    let reply = survey.reply;
-    let ho = survey.ho;
-    let sho = survey.sho;
-    print::answer(reply);
-    print::sets(b" ho", STATIONS as u8, ho);
-    print::sets(b" sho", STATIONS as u8, sho);
-}
-
-// Reads what the operation is called with, calls it and prints what it answers.
-fn operation(number: u8, space: &mut [u8]) {
-    match number {
-        READ_ROUND => read_round(space),
-        WRITE_ROUND => write_round(space),
-        SURVEY => survey(space),
-        _ => print::text(b"no such operation"),
-    }
-}
-
-// One frame; false where the input has ended.
-fn frame(space: &mut [u8]) -> bool {
-    if !take::label() {
-        return false;
-    }
-    operation(take::byte(), space);
-    print::text(b"\n");
-    true
-}
-
-fn main() {
-    let mut space = io::large_buffer();
-    let mut left = FRAMES;
-    while left > 0 && frame(&mut space) {
-        left -= 1;
-    }
+// What can't be written is lost: the program ends all the same.
+fn main(rt: HostRuntime) {
+    let _ = trial::run_trials(&rt, rt.stdin(), |operation, frames| match operation {
+        Operation::ReadRound => read_round(&rt, frames),
+        Operation::WriteRound => write_round(&rt, frames),
+        Operation::Survey => survey(&rt, frames),
+    });
 }

@@ -2,91 +2,65 @@
 // answered.
 #![tactic(auto)]
 
-use limits::Setup;
 use run::Run;
-use trial::{print, take};
+use std::io;
+use std::io::Read;
+use trial::NoSuchOperation;
+use trial::print::{OpenedRun, Written};
+use trial::take::Frames;
 
-const FRAMES: u32 = 100000; // no more than these are read
-
-// The numbers of the operations.
-const OPEN: u8 = 1;
-
-const WRITE_OPENING: u8 = 2;
-
-const LOAD: u8 = 3;
-
-const SAVE: u8 = 4;
-
-const SOUND: u8 = 5;
-
-fn open(space: &mut [u8]) {
-    let n = take::payload(space);
-    print::opened(Run::open(&space[0..n]));
+#[derive(Clone, Copy)]
+enum Operation {
+    Open,
+    WriteOpening,
+    Load,
+    Save,
+    Sound,
 }
 
-fn put_opening(setup: Setup, default: u32, starts: [u32; Run::STATIONS], out: &mut [u8]) {
+impl TryFrom<u8> for Operation {
+    type Error = NoSuchOperation;
+
+    fn try_from(number: u8) -> Result<Operation, NoSuchOperation> {
+        match number {
+            1 => Ok(Operation::Open),
+            2 => Ok(Operation::WriteOpening),
+            3 => Ok(Operation::Load),
+            4 => Ok(Operation::Save),
+            5 => Ok(Operation::Sound),
+            _ => Err(NoSuchOperation),
+        }
+    }
+}
+
+fn write_opening(rt: &impl Print, frames: &mut Frames<impl Read + Drop>) -> io::Result<()> {
+    let setup = frames.parameters();
+    let default = frames.number();
+    let starts = frames.numbers();
+    let out = frames.payload();
     let reply = put::opening::write_opening(setup, default, starts, out);
-    print::written(reply, out);
+    print!(rt; "{}", Written(reply, out))
 }
 
-fn write_opening(space: &mut [u8]) {
-    let setup = take::parameters();
-    let default = take::number();
-    let starts = take::numbers();
-    let n = take::payload(space);
-    put_opening(setup, default, starts, &mut space[0..n]);
-}
-
-fn load(space: &mut [u8]) {
-    let n = take::payload(space);
-    print::opened(image::load(&space[0..n]));
-}
-
-fn put_image(run: Run, out: &mut [u8]) {
+fn save(rt: &impl Print, frames: &mut Frames<impl Read + Drop>) -> io::Result<()> {
+    let run = frames.run();
+    let out = frames.payload();
     let reply = image::save(run, out);
-    print::written(reply, out);
+    print!(rt; "{}", Written(reply, out))
 }
 
-fn save(space: &mut [u8]) {
-    let run = take::whole();
-    let n = take::payload(space);
-    put_image(run, &mut space[0..n]);
+fn sound(rt: &impl Print, frames: &mut Frames<impl Read + Drop>) -> io::Result<()> {
+    let is_sound = rules::sound(frames.run());
+    print!(rt; "{}", if is_sound { "sound" } else { "broken" })
 }
 
-fn sound() {
-    if rules::sound(take::whole()) {
-        print::text(b"sound");
-    } else {
-        print::text(b"broken");
-    }
-}
-
-// Reads what the operation is called with, calls it and prints what it answers.
-fn operation(number: u8, space: &mut [u8]) {
-    match number {
-        OPEN => open(space),
-        WRITE_OPENING => write_opening(space),
-        LOAD => load(space),
-        SAVE => save(space),
-        SOUND => sound(),
-        _ => print::text(b"no such operation"),
-    }
-}
-
-// One frame; false where the input has ended.
-fn frame(space: &mut [u8]) -> bool {
-    if !take::label() {
-        return false;
-    }
-    operation(take::byte(), space);
-    print::text(b"\n");
-    true
-}
-
-fn main() {
-    let mut space = io::large_buffer();
-    let mut left = FRAMES;
-    while left > 0 && frame(&mut space) {
-        left -= 1;
-    }
+// What can't be written is lost: the program ends all the same.
+fn main(rt: HostRuntime) {
+    let _ = trial::run_trials(&rt, rt.stdin(), |operation, frames| match operation {
+        Operation::Open => print!(rt; "{}", OpenedRun(Run::open(frames.payload()))),
+        Operation::WriteOpening => write_opening(&rt, frames),
+        Operation::Load => print!(rt; "{}", OpenedRun(image::load(frames.payload()))),
+        Operation::Save => save(&rt, frames),
+        Operation::Sound => sound(&rt, frames),
+    });
 }

@@ -2,95 +2,103 @@
 // answered.
 #![tactic(auto)]
 
-use run::Run;
-use trial::{print, take};
+use judge::{Stepped, step};
+use run::{Run, each};
+use std::io::Read;
+use std::{fmt, io};
+use trial::NoSuchOperation;
+use trial::print::{Answer, Held, Maybe, Sets};
+use trial::take::Frames;
 
-const FRAMES: u32 = 100000; // no more than these are read
+#[derive(Clone, Copy)]
+enum Operation {
+    Step,
+    Play,
+}
 
-// The numbers of the operations.
-const STEP: u8 = 9;
+impl TryFrom<u8> for Operation {
+    type Error = NoSuchOperation;
 
-const PLAY: u8 = 10;
+    fn try_from(number: u8) -> Result<Operation, NoSuchOperation> {
+        match number {
+            9 => Ok(Operation::Step),
+            10 => Ok(Operation::Play),
+            _ => Err(NoSuchOperation),
+        }
+    }
+}
 
 // The run after a call: one that keeps the rules, or the one that was handed in.
-fn after(before: Run, run: Run) {
-    if rules::sound(run) || print::same(before, run) {
-        print::held(run);
-    } else {
-        print::text(b"another run");
+#[derive(Clone, Copy)]
+struct After<'a> {
+    before: &'a Run,
+    run: &'a Run,
+}
+
+impl fmt::Display for After<'_> {
+    fn fmt<W: fmt::Write>(&self, f: &mut fmt::Formatter<W>) -> fmt::Result {
+        let run = self.run;
+        if rules::sound(*run) || *run == *self.before {
+            write!(f, "{}", Held(run))
+        } else {
+            f.write_str("another run")
+        }
     }
 }
 
-// ` 7`, or ` -` at a station whose decide rule did not fire.
-fn fired_at(fires: [bool; Run::STATIONS], values: [u32; Run::STATIONS], i: usize) {
-    if i < Run::STATIONS {
-        print::maybe(fires[i], values[i], b" -");
+// ` 7 -`: what the decide rules of the first n stations gave.
+#[derive(Clone, Copy)]
+struct Fired<'a>(&'a Stepped);
+
+impl fmt::Display for Fired<'_> {
+    fn fmt<W: fmt::Write>(&self, f: &mut fmt::Formatter<W>) -> fmt::Result {
+        let stepped = self.0;
+        for value in stepped.fired.iter().take(stepped.run.setup.n as usize) {
+            write!(f, "{}", Maybe(*value, '-'))?;
+        }
+        Ok(())
     }
 }
 
-fn fired(n: u8, fires: [bool; Run::STATIONS], values: [u32; Run::STATIONS]) {
-    let last = n as usize;
-    let mut i: usize = 0;
-    while i < last {
-        fired_at(fires, values, i);
-        i += 1;
-    }
+fn one_step(rt: &impl Print, frames: &mut Frames<impl Read + Drop>) -> io::Result<()> {
+    let before = frames.run();
+    let stepped = step::step(before, frames.payload());
+    let n = stepped.run.setup.n;
+    let after = After {
+        before: &before,
+        run: &stepped.run,
+    };
+    print!(rt;
+        "{} {after} fired{}",
+        Answer(stepped.reply),
+        Fired(&stepped)
+    )?;
+    let ho = Sets {
+        n,
+        masks: &stepped.ho,
+    };
+    let sho = Sets {
+        n,
+        masks: &stepped.sho,
+    };
+    print!(rt; " ho{ho} sho{sho}")
 }
 
-fn one_step(space: &mut [u8]) {
-    let run = take::whole();
-    let n = take::payload(space);
-    let stepped = judge::step::step(run, &space[0..n]);
-    let reply = stepped.reply;
-    let next = stepped.run;
-    let fires = stepped.fires;
-    let values = stepped.fired;
-    let ho = stepped.ho;
-    let sho = stepped.sho;
-    print::answer(reply);
-    print::text(b" ");
-    after(run, next);
-    print::text(b" fired");
-    fired(next.setup.n, fires, values);
-    print::sets(b" ho", next.setup.n, ho);
-    print::sets(b" sho", next.setup.n, sho);
+fn one_play(rt: &impl Print, frames: &mut Frames<impl Read + Drop>) -> io::Result<()> {
+    let before = frames.run();
+    let played = play::play(before, frames.payload());
+    let rounds = played.rounds;
+    let after = After {
+        before: &before,
+        run: &played.run,
+    };
+    print!(rt; "{} rounds {rounds} {after}", Answer(played.reply))
 }
 
-fn one_play(space: &mut [u8]) {
-    let run = take::whole();
-    let n = take::payload(space);
-    let played = play::play(run, &space[0..n]);
-    let reply = played.reply;
-    let next = played.run;
-    print::answer(reply);
-    print::word(b" rounds ", played.rounds);
-    print::text(b" ");
-    after(run, next);
-}
-
-// Reads what the operation is called with, calls it and prints what it answers.
-fn operation(number: u8, space: &mut [u8]) {
-    match number {
-        STEP => one_step(space),
-        PLAY => one_play(space),
-        _ => print::text(b"no such operation"),
-    }
-}
-
-// One frame; false where the input has ended.
-fn frame(space: &mut [u8]) -> bool {
-    if !take::label() {
-        return false;
-    }
-    operation(take::byte(), space);
-    print::text(b"\n");
-    true
-}
-
-fn main() {
-    let mut space = io::large_buffer();
-    let mut left = FRAMES;
-    while left > 0 && frame(&mut space) {
-        left -= 1;
-    }
+// What can't be written is lost: the program ends all the same.
+fn main(rt: HostRuntime) {
+    let _ = trial::run_trials(&rt, rt.stdin(), |operation, frames| match operation {
+        Operation::Step => one_step(&rt, frames),
+        Operation::Play => one_play(&rt, frames),
+    });
 }

@@ -2,19 +2,20 @@
 -- one record after another.
 use mathlib.Core.Path.{◌≡◌, refl, ap, sym, ◌∙◌}
 use mathlib.Core.Logic.{◌↔◌}
-use mathlib.Core.Bool.{Bool, true, false, not, ◌&&◌, ◌||◌, false≢true}
+use mathlib.Core.Bool.{Bool, true, false, not, not-not, ◌&&◌, ◌||◌, false≢true}
 use mathlib.Core.List.{List, ◌++◌}
 use Prim.Native.Nat.{ℕ, zero, suc, ◌+◌, ◌*◌, ◌/◌, ◌%◌, ◌<◌, ◌≤◌}
 use native.Mathlib.Nat.{mul-zero, mul-suc}
 use native.Mathlib.Omega.{arith}
-use borrow.Author.Tests.{eq-eqb, ne_eqb, eqb-true, ltb-true, ltb-false}
+use borrow.Author.Tests.{eq-eqb, eqb-true, ltb-true, ltb-false}
 use lib.Dec.{eqb, ltb}
 use lib.ListN.{length}
-use Rattle.run.specs.declared.Reply.{Reply}
-use Rattle.run.specs.declared.Reply.TheVariants.{Accepted, Malformed, Query, Buffer, Rules}
+use Rattle.run.specs.Reply.{Reply}
+use Rattle.run.specs.Reply.{Accepted, Malformed, Query, Buffer, Rules}
 use Rattle.run.specs.declared.Run.{Run}
 use Rattle.run.specs.declared.record.Record.{Record}
-use Rattle.run.specs.Reply.{is_accepted, ◌then◌, or_refuse}
+use Rattle.run.specs.First.{first}
+use Rattle.run.specs.Reply.{is_accepted, ◌then◌, or_refuse, refuse_at}
 use Rattle.run.specs.Run.{stations, sound}
 use Rattle.run.specs.Written.{written}
 use Rattle.run.proofs.Replies.{then_accepted, or_refuse_accepted, accepted_or_refuse}
@@ -27,7 +28,7 @@ use Rattle.round.specs.Reading.{in_turn, votes_next, numbered, cell_of, cell_num
 use Rattle.writing.specs.Writing.{is_query, is_lost, check_queries, check_outside, check_writing, rows_bytes}
 use Rattle.writing.specs.Writing.{write_round}
 use Rattle.round.proofs.Places.{receiver_of, sender_of, number_of}
-use Rattle.round.proofs.Turns.{turn_accepted, turn_same, turn_rows}
+use Rattle.round.proofs.Turns.{turn_accepted, turn_same, turn_first, turn_rows}
 
 -- ---- tests on a cell
 query_is : (c : Cell) → is_query c ≡ true → c ≡ cell.Query
@@ -67,8 +68,11 @@ lost_outside n p q c = (λ e out. there (ltb p n) (ltb q n) refl refl e out, λ 
 
 module _ (n : ℕ) (m : Matrix) where
   -- ---- 5, record by record
+  abbrev pub query_at : ℕ → Bool
+  query_at k = is_query (cell_of m (k / n) (k % n))
+
   abbrev pub query_said : ℕ → Reply
-  query_said k = or_refuse (not (is_query (cell_of m (k / n) (k % n)))) (Query k)
+  query_said k = or_refuse (not (query_at k)) (Query k)
 
   queries_rows : (voting : Bool) → check_queries voting n m
       ≡ in_turn (n * n) (λ k. or_refuse (voting || not (is_query (cell_of m (k / n) (k % n))))
@@ -82,6 +86,11 @@ module _ (n : ℕ) (m : Matrix) where
 
   pub queries_asked : {voting : Bool} → voting ≡ false → in_turn (n * n) query_said ≡ check_queries voting n m
   queries_asked e = rw (queries_rows, e) (turn_same (n * n) query_said _ (λ k l. rw (number_of n k)))
+
+  pub queries_first : {voting : Bool} → voting ≡ false
+      → check_queries voting n m ≡ refuse_at (first (n * n) query_at) Query
+  queries_first e =
+      sym (queries_asked e) ∙ turn_first (n * n) query_said Query query_at (λ k. refl) (λ k. refl)
 
   -- so a "?" stands within n by n only in a vote round
   pub queries_accepted : (voting : Bool) → (check_queries voting n m ≡ Accepted)
@@ -97,28 +106,23 @@ module _ (n : ℕ) (m : Matrix) where
         ((may_be_query voting (cell_of m p q)).1 (h p q lp lq)))),
   )
 
-  -- a record that was looked at
-  pub query_passed : (k : ℕ) {place : ℕ} {b : Bool} → place ≡ stations * (k / n) + k % n
-      → b ≡ is_query (numbered m place) → b ≡ false
-      → query_said k ≡ Accepted
-  query_passed k e h f = rw (← e, ← h, f)
-
-  pub query_met : (k : ℕ) {place : ℕ} {b : Bool} → place ≡ stations * (k / n) + k % n → b ≡ is_query (numbered m place)
-      → b ≡ true
-      → query_said k ≡ Query k
-  query_met k e h f = rw (← e, ← h, f)
-
   -- ---- 2, place by place
-  abbrev pub place_said : ℕ → Reply
-  place_said k = or_refuse (ltb (k / stations) n && ltb (k % stations) n || is_lost (numbered m k)) (Malformed (n * n))
+  abbrev pub place_fits : ℕ → Bool
+  place_fits k = ltb (k / stations) n && ltb (k % stations) n || is_lost (numbered m k)
 
-  pub place_met : (k : ℕ) → (ltb (k / stations) n && ltb (k % stations) n || is_lost (numbered m k)) ≡ false
-      → place_said k ≡ Malformed (n * n)
-  place_met k e = rw e
+  abbrev pub place_said : ℕ → Reply
+  place_said k = or_refuse (place_fits k) (Malformed (n * n))
 
   pub outside_asked : in_turn (stations * stations) place_said ≡ check_outside n m
   unfolding check_outside
   outside_asked = refl
+
+  pub outside_first : check_outside n m
+      ≡ refuse_at (first (stations * stations) (λ k. not (place_fits k))) (λ k. Malformed (n * n))
+  outside_first =
+      sym outside_asked
+      ∙ turn_first (stations * stations) place_said (λ k. Malformed (n * n)) (λ k. not (place_fits k))
+      (λ k. rw not-not) (λ k. refl)
 
   -- so every cell outside n by n is lost
   pub outside_accepted : (check_outside n m ≡ Accepted)
@@ -170,34 +174,16 @@ module _ (n : ℕ) (m : Matrix) where
 
 -- ---- the checks in their order
 module _ (run : Run) (m : Matrix) (room : ℕ) where
-  checks : check_writing run m room
+  pub writing_is : check_writing run m room
       ≡ (or_refuse (sound run) (Rules 0) then check_queries (votes_next run) run.setup.n m
       then check_outside run.setup.n m
       then or_refuse (eqb room (round_length run.setup.n)) Buffer)
   unfolding check_writing
-  checks = refl
+  writing_is = refl
 
-  pub writing_unsound : sound run ≡ false → Rules 0 ≡ check_writing run m room
-  writing_unsound e = rw (checks, e)
-
-  module _ (good : sound run ≡ true) where
-    pub writing_query : {r : Reply} → r ≡ check_queries (votes_next run) run.setup.n m
-        → is_accepted (check_queries (votes_next run) run.setup.n m) ≡ false → r ≡ check_writing run m room
-    writing_query e f = rw (checks, good, f) e
-
-    module _ (asked : check_queries (votes_next run) run.setup.n m ≡ Accepted) where
-      pub writing_outside : {r : Reply} → r ≡ check_outside run.setup.n m
-          → is_accepted (check_outside run.setup.n m) ≡ false
-          → r ≡ check_writing run m room
-      writing_outside e f = rw (checks, good, asked, f) e
-
-      pub writing_room : check_outside run.setup.n m ≡ Accepted → (room ≡ round_length run.setup.n → ⊥)
-          → Buffer ≡ check_writing run m room
-      writing_room e f = rw (checks, good, asked, e, ne_eqb _ _ f)
-
-      pub writing_accepted : check_outside run.setup.n m ≡ Accepted → room ≡ round_length run.setup.n
-          → Accepted ≡ check_writing run m room
-      writing_accepted e f = rw (checks, good, asked, e, eq-eqb _ _ f)
+  pub writing_accepted : sound run ≡ true → check_queries (votes_next run) run.setup.n m ≡ Accepted
+      → check_outside run.setup.n m ≡ Accepted → room ≡ round_length run.setup.n → Accepted ≡ check_writing run m room
+  writing_accepted good asked outside fits = rw (writing_is, good, asked, outside, eq-eqb _ _ fits)
 
   -- what is accepted passed each check
   pub writing_passed : check_writing run m room ≡ Accepted
@@ -205,7 +191,7 @@ module _ (run : Run) (m : Matrix) (room : ℕ) where
       × (check_outside run.setup.n m ≡ Accepted)
       × (room ≡ round_length run.setup.n)
   writing_passed e =
-      let (good, rest) = then_accepted _ _ (sym checks ∙ e) in
+      let (good, rest) = then_accepted _ _ (sym writing_is ∙ e) in
       let (asked, more) = then_accepted _ _ rest in
       let (outside, fits) = then_accepted _ _ more in
       (or_refuse_accepted _ (Rules 0) refl good, asked, outside, eqb-true _ _ (or_refuse_accepted _ Buffer refl fits))

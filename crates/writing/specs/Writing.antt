@@ -23,8 +23,8 @@ use Rattle.std.specs.Prelude.{
   eqb,
   ltb,
 }
-use Rattle.run.specs.declared.Reply.{Reply}
-use Rattle.run.specs.declared.Reply.TheVariants.{Malformed, Query, Buffer, Rules}
+use Rattle.run.specs.Reply.{Reply}
+use Rattle.run.specs.Reply.{Malformed, Query, Buffer, Rules}
 use Rattle.run.specs.declared.Run.{Run}
 use Rattle.run.specs.Reply.{is_accepted, ◌then◌, or_refuse}
 use Rattle.run.specs.Run.{stations, sound}
@@ -47,7 +47,7 @@ is_lost cell.Query = false
 
 -- what a matrix is if the code holds it: a place for each cell, and every value one of rule 1.3
 pub record IsMatrix (m : Matrix) : Type 0 where
-  pub places : length m.slots ≡ stations * stations
+  pub places : length m.cells ≡ stations * stations
   pub values : (k v : ℕ) → numbered m k ≡ cell.Value v → v < 2 ^ 32
 
 -- 5 at the first "?" that a record would spell

@@ -1,29 +1,20 @@
 -- `lines::put_digits` meets its contract: the last digit goes behind the others, which the call puts.
-use Prim.Native.Nat.{◌-◌, ◌/◌}
-use native.Mathlib.Omega.{arith}
-use Rattle.lines.specs.Text.{ten, spelled}
-use Rattle.lines.proofs.Putting.{put_nothing, put_digit, put_last_digit, spelled_short}
+use Rattle.std.proofs.Common.{◌<◌, length, arith}
+use Rattle.lines.specs.Text.{spelled}
+use Rattle.lines.proofs.Putting.{put_nothing, put_one, put_digit, put_last_digit}
 use Rattle.lines.proofs.+put_digits.Goals as goal
 
-pub returns-then-most-eq0 : goal.returns-then-most-eq0
+pub returns-then-most-eq0-clause-put : goal.returns-then-most-eq0-clause-put
 unfolding spelled
-returns-then-most-eq0 t c = rw c.if-most-eq0.true (put_nothing _ _)
+returns-then-most-eq0-clause-put t c = rw c.if-most-eq0.true (put_nothing _ _)
 
-pub returns-then-x-lt-TEN : goal.returns-then-x-lt-TEN
-returns-then-x-lt-TEN t c = put_digit _ _ c.put_byte.ensures c.digit.ensures c.if-most-eq0.false c.if-x-lt-TEN.true
+pub returns-then-x-lt-TEN-clause-put : goal.returns-then-x-lt-TEN-clause-put
+returns-then-x-lt-TEN-clause-put t c =
+    let room : 0 < length c.args.out.now = omega arith in
+    put_digit _ _ (put_one _ 0 _ room) c.digit.ensures c.if-most-eq0.false c.if-x-lt-TEN.true
 
-pub put_byte-requires-2 : goal.put_byte-requires-2
-put_byte-requires-2 t c =
-    omega (
-      arith,
-      c.put_digits-last.ensures.ends,
-      spelled_short (c.args.most - 1) (c.args.x / ten),
-      c.put_digits-last.auto.out,
-      c.requires,
-      c.if-most-eq0.false,
-    )
-
-pub returns : goal.returns
-returns t c =
-    put_last_digit _ _ c.put_digits-last.ensures c.put_byte-2.ensures c.digit-2.ensures
-    c.if-most-eq0.false c.if-x-lt-TEN.false
+pub returns-clause-put : goal.returns-clause-put
+returns-clause-put t c =
+    let room : c.put_digits-end.result < length c.put_digits-end.new.out = omega arith in
+    put_last_digit _ _ c.put_digits-end.ensures.put (put_one _ _ _ room) c.digit-2.ensures c.if-most-eq0.false
+    c.if-x-lt-TEN.false

@@ -7,13 +7,12 @@ use Rattle.listing.proofs.main.Goals as goal
 pub loop-listed-init : goal.loop-listed-init
 loop-listed-init c =
     let first = c.put_first-listed.ensures in
-    (search rules, search rules, omega (arith, first.room), λ e. first_keeps _ first e)
+    (search rules, search rules, omega (arith, first.room), first_keeps _ first)
 
 pub loop-listed-smaller : goal.loop-listed-smaller
 loop-listed-smaller c =
-    let keeps = c.loop-listed.invariant.3 c.loop-listed-test.true in
-    fewer c.loop-listed.listed c.put_next-listed.result c.loop-listed-test.true keeps
-    (λ e. next_clock _ _ c.put_next-listed.ensures e)
+    let keeps = rw c.in-Continue.is at c.loop-listed.invariant.3 in
+    rw c.in-Continue.is (fewer _ c.put_next-listed.result.next keeps (next_clock _ _ c.put_next-listed.ensures))
 
 pub loop-listed-preserved : goal.loop-listed-preserved
 loop-listed-preserved c =
@@ -21,5 +20,5 @@ loop-listed-preserved c =
       search rules,
       search rules,
       omega (arith, put.room, c.next_line-from.ensures),
-      λ e. next_keeps _ _ put e,
+      next_keeps _ _ put,
     )

@@ -1,34 +1,30 @@
 -- `play::take_first` meets its contract: the tape's first round is stepped, and its reply says whether it counts.
-use mathlib.Core.Path.{sym, ◌∙◌}
-use native.Mathlib.Omega.{arith}
-use lib.Seq.{length-take-le}
+use Rattle.std.proofs.Common.{sym, ◌∙◌, eq-eqb}
+use mathlib.Core.Bool.{false≢true}
+use borrow.Author.Tests.{eqb-true}
 use Rattle.play.proofs.Tapes.{nothing_first, Stepping, refused_alone, accepted_alone}
 use Rattle.play.proofs.take_first.Goals as goal
 use Rattle.play.proofs.take_first.Goals.{After-step-stepped}
 
-pub returns-then-tape-eq0 : goal.returns-then-tape-eq0
-returns-then-tape-eq0 c = c.ended.ensures ∙ sym (nothing_first _ _ c.if-tape-eq0.true)
-
-pub slice_bounds-step-end : goal.slice_bounds-step-end
-slice_bounds-step-end c = sym (length-take-le _ _ (omega (arith, c.least-size.ensures)))
+pub returns-then-is_empty-clause-first : goal.returns-then-is_empty-clause-first
+returns-then-is_empty-clause-first c =
+    c.ended.ensures ∙ sym (nothing_first _ _ (eqb-true _ _ (sym c.is_empty.ensures ∙ c.if-is_empty.true)))
 
 -- what is known once the round is stepped
 stepping : (c : After-step-stepped)
-    →
-    Stepping c.args.run c.args.tape.now c.least-size.result c.step-stepped.result
+    → Stepping c.args.run c.args.tape.now c.min-size.result c.step-stepped.result
 stepping c =
     record {
-      some = c.if-tape-eq0.false;
-      size = rw (c.least-size.ensures, c.round_length.ensures);
-      stepped = c.step-stepped.ensures;
+      some = λ z. false≢true (sym c.if-is_empty.false ∙ c.is_empty.ensures ∙ eq-eqb _ _ z);
+      size = rw (c.min-size.ensures, c.round_length.ensures);
+      stepped = rw (← c.split_at.ensures.front) c.step-stepped.ensures;
     }
 
-pub returns-then-number-ne0 : goal.returns-then-number-ne0
-returns-then-number-ne0 c =
-    let after_step = (goal.at.returns-then-number-ne0 c).After-step-stepped in
-    c.ended-then-number-ne0.ensures ∙ refused_alone (stepping after_step) c.number.ensures c.if-number-ne0.true
+pub returns-in-Ok-clause-first : goal.returns-in-Ok-clause-first
+returns-in-Ok-clause-first c =
+    accepted_alone (stepping (goal.at.returns-in-Ok-clause-first c).After-step-stepped) c.in-Ok.is
 
-pub returns : goal.returns
-returns c =
-    let after_step = (goal.at.returns c).After-step-stepped in
-    accepted_alone (stepping after_step) c.number.ensures c.if-number-ne0.false
+pub returns-in-Err-clause-first : goal.returns-in-Err-clause-first
+returns-in-Err-clause-first c =
+    c.ended-in-Err.ensures
+    ∙ refused_alone (stepping (goal.at.returns-in-Err-clause-first c).After-step-stepped) c.in-Err.is

@@ -1,37 +1,17 @@
--- `rules::sound` meets its contract: the places passed all keep the rules, so at the end every one does; one that does
--- not makes the whole false.
-use mathlib.Core.Path.{◌≡◌}
-use native.Mathlib.Omega.{arith}
-use Rattle.run.specs.Run.{stations, sound}
-use Rattle.run.proofs.Asked.{passes, fails}
-use Rattle.run.proofs.Sound.{every_zero, every_on, every_off}
+-- `rules::sound` meets its contract: every place fits exactly if the search finds none that does not.
+use Rattle.std.proofs.Common.{rules, ℕ, Bool, not}
+use Rattle.run.specs.Run.{stations, place_fits_in, sound}
+use Rattle.run.proofs.Places.{none_fails}
 use Rattle.rules.proofs.sound.Goals as goal
 
-pub returns-then-not-head_fits : goal.returns-then-not-head_fits
+pub returns-then-head_fits : goal.returns-then-head_fits
 unfolding sound
-returns-then-not-head_fits c = rw (fails c.head_fits.ensures c.if-not-head_fits.true)
+returns-then-head_fits c =
+    let misfits : ℕ → Bool = λ i. not (place_fits_in c.args.run i) in
+    rw (← c.head_fits.ensures, c.if-head_fits.true)
+    (none_fails stations (place_fits_in c.args.run) _
+    (rw (c.first.ensures.first misfits (λ i x l p. search rules)) at c.is_none.ensures))
 
-pub returns-then-not-place_fits : goal.returns-then-not-place_fits
+pub returns-else-head_fits : goal.returns-else-head_fits
 unfolding sound
-returns-then-not-place_fits c =
-    rw (
-      passes c.head_fits.ensures c.if-not-head_fits.false,
-      every_off stations c.loop-i.i _ (omega arith) (fails c.place_fits.ensures c.if-not-place_fits.true),
-    )
-
-pub loop-i-preserved : goal.loop-i-preserved
-loop-i-preserved c =
-    (omega arith, every_on _ _ c.loop-i.invariant.1 (passes c.place_fits.ensures c.if-not-place_fits.false))
-
-pub returns : goal.returns
-unfolding sound
-returns c =
-    let done : c.loop-i.i ≡ stations = omega arith in
-    rw (
-      passes c.head_fits.ensures c.if-not-head_fits.false,
-      rw done at
-          c.loop-i.invariant.1,
-    )
-
-pub loop-i-init : goal.loop-i-init
-loop-i-init c = (omega arith, every_zero _)
+returns-else-head_fits c = rw (← c.head_fits.ensures, c.if-head_fits.false)

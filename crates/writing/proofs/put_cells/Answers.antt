@@ -5,54 +5,25 @@ use native.Mathlib.Nat.{mul_assoc}
 use native.Mathlib.Omega.{arith}
 use Rattle.run.specs.Record.{record_bytes}
 use Rattle.run.proofs.Written.{written_zero, put_at_written, written_whole}
-use Rattle.round.proofs.Places.{some_station, receiver_below, sender_below}
 use Rattle.writing.proofs.Writings.{record_number, record_made, round_written}
 use Rattle.writing.proofs.put_cells.Goals as goal
 
-pub overflow_cast-k : goal.overflow_cast-k
-overflow_cast-k c =
-    omega (
-      arith,
-      receiver_below c.args.n
-          c.loop-k.k (omega arith),
-    )
-
-pub overflow_cast-k-in-loop-k : goal.overflow_cast-k-in-loop-k
-overflow_cast-k-in-loop-k c =
-    omega (
-      arith,
-      sender_below c.args.n
-          c.loop-k.k (omega arith),
-    )
-
 pub loop-k-preserved : goal.loop-k-preserved
 loop-k-preserved c =
-    let n = c.args.n in
+    let n = c.args.size.n in
     let m = c.args.matrix in (
-      omega arith,
       c.put_record.ensures
-          ∙ rw (
-            record_made n m c.loop-k.k c.place_of-place.ensures.0 c.cell_record-r.ensures,
-            c.loop-k.invariant.1,
-          )
+          ∙ rw (record_made n m c.loop-k.k c.place.ensures.value c.cell_record.ensures, c.loop-k.invariant.0)
           (put_at_written c.loop-k.k (record_number n m) _ (omega (arith, mul_assoc record_bytes n n))),
-      c.put_record.auto.bytes ∙ c.loop-k.invariant.2,
+      c.put_record.auto.bytes ∙ c.loop-k.invariant.1,
     )
 
 pub returns : goal.returns
 returns c =
-    let n = c.args.n in
+    let n = c.args.size.n in
     let done : c.loop-k.k ≡ n * n = omega arith in
-    (rw done at c.loop-k.invariant.1) ∙ written_whole (n * n) _ _ (omega (arith, mul_assoc record_bytes n n))
+    (rw done at c.loop-k.invariant.0) ∙ written_whole (n * n) _ _ (omega (arith, mul_assoc record_bytes n n))
     ∙ round_written _ _
 
 pub loop-k-init : goal.loop-k-init
-loop-k-init c = (omega arith, rw written_zero, refl)
-
-pub nonzero_div-k : goal.nonzero_div-k
-nonzero_div-k c = some_station c.args.n c.loop-k.k
-    (omega arith)
-
-pub nonzero_rem-k : goal.nonzero_rem-k
-nonzero_rem-k c = some_station c.args.n c.loop-k.k
-    (omega arith)
+loop-k-init c = (rw written_zero, refl)

@@ -1,7 +1,7 @@
--- `writing::put_cells` meets its contract: each turn writes the next record behind those before it.
+-- `writing::put_cells`: the records passed are written, and the bytes behind them are as they were.
 use mathlib.Core.Path.{◌≡◌}
 use mathlib.Core.List.{◌++◌}
-use Prim.Native.Nat.{◌-◌, ◌*◌, ◌≤◌}
+use Prim.Native.Nat.{◌*◌}
 use lib.ListN.{length, drop}
 use Rattle.run.specs.Record.{record_bytes}
 use Rattle.run.specs.Written.{written}
@@ -10,9 +10,5 @@ use Rattle.writing.proofs.put_cells.Given as goal
 
 abbrev pub invariant-loop-k : goal.invariant-loop-k
 invariant-loop-k l =
-    (l.k ≤ l.all)
-    × (l.out ≡ written l.k (record_number l.n l.matrix) ++ drop (record_bytes * l.k) l.initial.out)
+    (l.out ≡ written l.k (record_number l.size.n l.matrix) ++ drop (record_bytes * l.k) l.initial.out)
     × (length l.out ≡ length l.initial.out)
-
-abbrev pub decreases-loop-k : goal.decreases-loop-k
-decreases-loop-k l = l.all - l.k

@@ -1,26 +1,20 @@
 -- `writing::write_round` meets its contract: what passes its checks is written whole, and a refusal writes no byte.
-use mathlib.Core.Path.{◌∙◌}
-use Rattle.run.proofs.Asked.{accepts, refuses}
+use mathlib.Core.Path.{sym, ◌∙◌}
+use Rattle.run.proofs.Asked.{stops}
 use Rattle.round.proofs.Readings.{few_stations}
 use Rattle.writing.proofs.Writings.{writing_passed, writing_refused, writing_done}
 use Rattle.writing.proofs.write_round.Goals as goal
 
-pub returns-then-number-ne0 : goal.returns-then-number-ne0
-returns-then-number-ne0 c =
-    let e = c.check_writing-reply.ensures in
-    record { value = e; out_after = writing_refused _ _ _ (refuses e c.number.ensures c.if-number-ne0.true) }
+pub returns-in_err-check_writing-clause-out_after : goal.returns-in_err-check_writing-clause-out_after
+returns-in_err-check_writing-clause-out_after c = writing_refused _ _ _ (stops c.in_err-check_writing.ensures)
+
+pub invariant_of-put_cells : goal.invariant_of-put_cells
+invariant_of-put_cells c =
+    record { few = few_stations _ (writing_passed _ _ _ (sym c.in_ok-check_writing.ensures)).0 }
 
 pub put_cells-requires : goal.put_cells-requires
-put_cells-requires c =
-    let passed =
-    writing_passed _ _ _ (accepts c.check_writing-reply.ensures c.number.ensures
-    c.if-number-ne0.false) in
-    (few_stations _ passed.0, passed.3)
+put_cells-requires c = (writing_passed _ _ _ (sym c.in_ok-check_writing.ensures)).3
 
-pub returns : goal.returns
-returns c =
-    let e = c.check_writing-reply.ensures in record {
-      value = e;
-      out_after = c.put_cells.ensures ∙ writing_done _ _ _
-          (accepts e c.number.ensures c.if-number-ne0.false);
-    }
+pub returns-clause-out_after : goal.returns-clause-out_after
+returns-clause-out_after c =
+    c.put_cells.ensures ∙ writing_done _ _ _ (sym c.in_ok-check_writing.ensures)

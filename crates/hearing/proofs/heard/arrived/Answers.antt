@@ -1,15 +1,22 @@
--- `hearing::heard::arrived` meets its contract: it goes by the cell's cases, as the definition does.
+-- `hearing::heard::arrived` meets its contract: a cell holds something just where it isn't lost.
+use Rattle.std.proofs.Common.{◌≡◌}
+use mathlib.Core.Path.{refl}
+use mathlib.Core.Bool.{not, false}
 use Rattle.paper.specs.Heard.{arrived}
+use Rattle.round.specs.Bridge.{paper_cell}
+use Rattle.round.specs.declared.Cell.{Cell}
+use Rattle.round.specs.declared.Cell.TheVariants.{Lost, Value, Query}
 use Rattle.hearing.proofs.heard.arrived.Goals as goal
+use Rattle.hearing.proofs.heard.arrived.Goals.{in-Lost, in_default}
 
-pub returns-in-Lost : goal.returns-in-Lost
+pub returns : goal.returns
 unfolding arrived
-returns-in-Lost c = rw c.in-Lost.is
-
-pub returns-in-Value : goal.returns-in-Value
-unfolding arrived
-returns-in-Value c = rw c.in-Value.is
-
-pub returns-in-Query : goal.returns-in-Query
-unfolding arrived
-returns-in-Query c = rw c.in-Query.is
+returns c = elim c.match-matches.branch [
+  | in-Lost w ↦ rw (w.matches-is, w.in-Lost.is) refl
+  | in_default w ↦ rw w.matches-is (there c.args.c w.in_default.not-Lost)
+]
+  where
+    there : (x : Cell) → (x ≡ Lost → ⊥) → not false ≡ arrived (paper_cell x)
+    there Lost h = absurd (h refl)
+    there (Value v) h = refl
+    there Query h = refl

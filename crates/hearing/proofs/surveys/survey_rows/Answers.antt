@@ -14,20 +14,19 @@ unfolding matrix_sets
 loop-p-preserved c =
     let loop = c.loop-p in
     let found = c.sets_of-sets.ensures in
-    let row = c.row-cells.ensures in (
-      omega arith,
+    let row = c.row.ensures in (
+      rw (loop.invariant.0, found, row) (filled_more stations _ _ 0 (omega arith)),
       rw (loop.invariant.1, found, row) (filled_more stations _ _ 0 (omega arith)),
-      rw (loop.invariant.2, found, row) (filled_more stations _ _ 0 (omega arith)),
     )
 
 pub returns : goal.returns
 returns c =
     let n = c.args.n in
     let done : c.loop-p.p ≡ min n stations = omega arith in
-    surveyed_all _ _ _ _ done c.loop-p.invariant.1 c.loop-p.invariant.2
+    surveyed_all _ _ _ _ done c.loop-p.invariant.0 c.loop-p.invariant.1
 
 pub loop-p-init : goal.loop-p-init
-loop-p-init c = (omega arith, sym (filled_none stations _ 0), sym (filled_none stations _ 0))
+loop-p-init c = (sym (filled_none stations _ 0), sym (filled_none stations _ 0))
 
 pub overflow_cast-p : goal.overflow_cast-p
 overflow_cast-p c = omega arith

@@ -1,7 +1,6 @@
 -- `hearing::surveys::survey_rows` meets its contract: each turn stores the sets of the matrix's next row, up to the
 -- array's end if n goes past it.
 use mathlib.Core.Path.{◌≡◌}
-use Prim.Native.Nat.{◌-◌, ◌≤◌}
 use Rattle.run.specs.Run.{stations}
 use Rattle.run.specs.Filled.{filled}
 use Rattle.hearing.specs.Surveying.{matrix_sets}
@@ -9,8 +8,5 @@ use Rattle.hearing.proofs.surveys.survey_rows.Given as goal
 
 abbrev pub invariant-loop-p : goal.invariant-loop-p
 invariant-loop-p l =
-    (l.p ≤ l.last) × (l.ho ≡ filled stations l.p (λ i. (matrix_sets l.n l.sent l.matrix i).ho) 0)
+    (l.ho ≡ filled stations l.p (λ i. (matrix_sets l.n l.sent l.matrix i).ho) 0)
     × (l.sho ≡ filled stations l.p (λ i. (matrix_sets l.n l.sent l.matrix i).sho) 0)
-
-abbrev pub decreases-loop-p : goal.decreases-loop-p
-decreases-loop-p l = l.last - l.p

@@ -1,78 +1,75 @@
 -- `judge::step::take` meets its contract: its sets are those of the round, so that 6 and 7 are the checks that the step
 -- has left, and a round that passes them moves the run as the paper says.
 use Prim.Native.Nat.{ℕ}
-use mathlib.Core.Path.{◌≡◌, ap, ap₂, ◌∙◌}
+use mathlib.Core.Path.{◌≡◌, ap, ap₂, sym, ◌∙◌}
 use mathlib.Core.Bool.{Bool}
 use mathlib.Core.List.{List}
-use Rattle.run.specs.declared.Reply.TheVariants.{Accepted}
+use Rattle.run.specs.Reply.{Accepted}
 use Rattle.run.specs.declared.Run.{Run}
 use Rattle.run.specs.Keeps.{Keeps}
-use Rattle.run.proofs.Asked.{accepts, refuses}
+use Rattle.run.proofs.Asked.{stops, handed}
 use Rattle.round.specs.Reading.{votes_next, check_cells}
 use Rattle.hearing.specs.Survey.{ho_sets, sho_sets}
 use Rattle.judge.specs.declared.Counted.{Counted}
-use Rattle.judge.specs.Rows.{rows_counted}
+use Rattle.judge.specs.Rows.{all_counted}
 use Rattle.judge.specs.Taking.{check_room, advanced}
-use Rattle.judge.proofs.Countings.{counted_reply, counted_ho, counted_sho}
-use Rattle.judge.proofs.Checks.{room_keeps, cells_refused, sets_refused, sets_accepted}
+use Rattle.judge.proofs.Countings.{counted_stops, counted_given, counted_ho, counted_sho}
+use Rattle.judge.proofs.Checks.{room_keeps, room_refused, cells_refused, sets_refused, sets_accepted}
 use Rattle.judge.proofs.Advances.{advanced_is}
 use Rattle.judge.proofs.step.take.Goals as goal
-use Rattle.judge.proofs.step.take.Goals.{After-count_rows-counted}
+use Rattle.judge.proofs.step.take.Goals.{In_ok-check_room, In_ok-counted}
 
-pub count_rows-counted-requires : goal.count_rows-counted-requires
-count_rows-counted-requires c = (room_keeps _ _ c.requires.0).0.setup.n_to
+pub returns-in_err-check_room : goal.returns-in_err-check_room
+returns-in_err-check_room c =
+    let no = c.in_err-check_room.ensures in
+    rw (handed c.from_residual.ensures) (room_refused _ _ no (stops no))
+
+there : (c : In_ok-check_room) → check_room c.args.run c.args.round.now ≡ Accepted
+there c = sym c.in_ok-check_room.ensures
+
+pub invariant_of-ready : goal.invariant_of-ready
+invariant_of-ready c =
+    let (kept, room) = room_keeps _ _ (there (goal.at.invariant_of-ready c).In_ok-check_room) in
+    record { few = kept.setup.n_to; below = room }
+
+pub returns-in_err-counted : goal.returns-in_err-counted
+returns-in_err-counted c =
+    let no = counted_stops _ _ _ (rw c.may_vote-voting.ensures at c.in_err-counted.ensures) in
+    rw (handed c.from_residual-in_err-counted.ensures)
+    (cells_refused _ _ (there (goal.at.returns-in_err-counted c).In_ok-check_room) no (stops no))
 
 -- what the rows tell of a run that has room for the round
 record Rows (run : Run) (bs : List ℕ) (counted : Counted) : Type 0 where
   there : check_room run bs ≡ Accepted
-  told : counted ≡ rows_counted (votes_next run) run bs
+  good : check_cells (votes_next run) run.setup.n bs ≡ Accepted
+  told : counted ≡ all_counted (votes_next run) run bs
 
 module _ {run : Run} {bs : List ℕ} {counted : Counted} (rows : Rows run bs counted) where
   keeps : Keeps run
   keeps = (room_keeps run bs rows.there).0
 
-  said : counted.reply ≡ check_cells (votes_next run) run.setup.n bs
-  said = ap (λ (r : Counted). r.reply) rows.told ∙ counted_reply (votes_next run) run bs
+  heard : counted.ho ≡ ho_sets run.setup.n bs
+  heard = ap (λ (r : Counted). r.ho) rows.told ∙ counted_ho run bs keeps.setup.n_to
 
-  -- and what is known once its records are in order
-  module _ (good : check_cells (votes_next run) run.setup.n bs ≡ Accepted) where
-    heard : counted.ho ≡ ho_sets run.setup.n bs
-    heard = ap (λ (r : Counted). r.ho) rows.told ∙ counted_ho run bs keeps.setup.n_to good
+  safely : counted.sho ≡ sho_sets run run.setup.n bs
+  safely = ap (λ (r : Counted). r.sho) rows.told ∙ counted_sho run bs keeps.setup.n_to
 
-    safely : counted.sho ≡ sho_sets run run.setup.n bs
-    safely = ap (λ (r : Counted). r.sho) rows.told ∙ counted_sho run bs keeps.setup.n_to good
+rows_of : (c : In_ok-counted) → Rows c.args.run c.args.round.now c.in_ok-counted.counted
+rows_of c =
+    let given = counted_given _ _ _ (rw c.may_vote-voting.ensures at c.in_ok-counted.ensures) in
+    record { there = sym c.in_ok-check_room.ensures; good = given.0; told = given.1 }
 
-rows_of : (c : After-count_rows-counted) → Rows c.args.run c.args.round.now c.count_rows-counted.result
-rows_of c = record { there = c.requires.0; told = rw c.requires.1 at c.count_rows-counted.ensures }
-
-pub returns-then-number-ne0 : goal.returns-then-number-ne0
-returns-then-number-ne0 c =
-    let rows = rows_of (goal.at.returns-then-number-ne0 c).After-count_rows-counted in
-    c.unstepped.ensures
-    ∙ cells_refused _ _ rows.there (said rows) (refuses (said rows) c.number.ensures c.if-number-ne0.true)
-
-pub ask_sets-reply-requires : goal.ask_sets-reply-requires
-ask_sets-reply-requires c = (room_keeps _ _ c.requires.0).0.setup.n_to
-
-pub returns-then-number-ne0-2 : goal.returns-then-number-ne0-2
-returns-then-number-ne0-2 c =
-    let rows = rows_of (goal.at.returns-then-number-ne0-2 c).After-count_rows-counted in
-    let good = accepts (said rows) c.number.ensures c.if-number-ne0.false in
-    let checked = c.ask_sets-reply.ensures in
-    c.unstepped-then-number-ne0-2.ensures
-    ∙ sets_refused _ _ rows.there good _ _ (heard rows good) (safely rows good) checked
-    (refuses checked c.number-2.ensures c.if-number-ne0-2.true)
-
-pub advance-requires : goal.advance-requires
-advance-requires c = let (kept, room) = room_keeps _ _ c.requires.0 in (kept.setup.n_to, room)
+pub returns-in_err-ask_sets : goal.returns-in_err-ask_sets
+returns-in_err-ask_sets c =
+    let rows = rows_of (goal.at.returns-in_err-ask_sets c).In_ok-counted in
+    let no = c.in_err-ask_sets.ensures in
+    rw (handed c.from_residual-in_err-ask_sets.ensures)
+    (sets_refused _ _ rows.there rows.good _ _ (heard rows) (safely rows) no (stops no))
 
 pub returns : goal.returns
 returns c =
-    let rows = rows_of (goal.at.returns c).After-count_rows-counted in
-    let good = accepts (said rows) c.number.ensures c.if-number-ne0.false in
-    let checked = c.ask_sets-reply.ensures in
+    let rows = rows_of (goal.at.returns c).In_ok-counted in
     c.advance.ensures
-    ∙ ap₂ (λ (voting : Bool) (r : Counted). advanced c.args.run voting r) c.requires.1 rows.told
-    ∙ advanced_is _ _ (keeps rows) good
-    ∙ sets_accepted _ _ rows.there good _ _ (heard rows good) (safely rows good)
-    (accepts checked c.number-2.ensures c.if-number-ne0-2.false)
+    ∙ ap₂ (λ (voting : Bool) (r : Counted). advanced c.args.run voting r) c.may_vote-voting.ensures rows.told
+    ∙ advanced_is _ _ (keeps rows)
+    ∙ sets_accepted _ _ rows.there rows.good _ _ (heard rows) (safely rows) (sym c.in_ok-ask_sets.ensures)

@@ -1,32 +1,19 @@
--- `run::block::check_block` meets its contract: the records passed all fit, so the first that doesn't is the lowest.
-use mathlib.Core.Path.{◌≡◌}
-use native.Mathlib.Omega.{arith}
-use Rattle.run.specs.Block.{check_block}
-use Rattle.run.proofs.First.{first_zero, first_on, first_here}
+-- `run::block::check_block` meets its contract: the lowest record that doesn't fit is refused.
+use Rattle.std.proofs.Common.{rules, ℕ, Bool, ◌+◌, not, ◌≡◌}
+use Rattle.std.specs.Prelude.{Some, None}
+use Rattle.run.specs.Record.{record_at}
+use Rattle.run.specs.Block.{check_block, block_fits}
+use Rattle.run.specs.First.{first}
 use Rattle.run.proofs.block.check_block.Goals as goal
 
-pub returns-then-not-fits : goal.returns-then-not-fits
+pub returns-in-Some : goal.returns-in-Some
 unfolding check_block
-returns-then-not-fits c =
-    rw (first_here _ c.args.n _
-    c.loop-i.invariant.1 (rw (
-      ← c.record_at-r.ensures,
-      ← c.fits.ensures,
-      c.if-not-fits.true,
-    )) (omega arith))
+returns-in-Some c =
+    let misfits : ℕ → Bool = λ i. not (block_fits c.args.shape i (record_at c.args.bytes.now (c.args.start + i))) in
+    let e : Some c.in-Some.i ≡ first c.args.n misfits = c.in-Some.ensures.first misfits (λ i x l p. search rules) in rw (← e)
 
-pub loop-i-preserved : goal.loop-i-preserved
-loop-i-preserved c = (
-  omega arith,
-  first_on _ _ c.loop-i.invariant.1
-      (rw (← c.record_at-r.ensures, ← c.fits.ensures, c.if-not-fits.false)),
-)
-
-pub returns : goal.returns
+pub returns-in-None : goal.returns-in-None
 unfolding check_block
-returns c =
-    let done : c.loop-i.i ≡ c.args.n = omega arith in
-    rw (rw done at c.loop-i.invariant.1)
-
-pub loop-i-init : goal.loop-i-init
-loop-i-init c = (omega arith, first_zero _)
+returns-in-None c =
+    let misfits : ℕ → Bool = λ i. not (block_fits c.args.shape i (record_at c.args.bytes.now (c.args.start + i))) in
+    let e : None ≡ first c.args.n misfits = c.in-None.ensures.first misfits (λ i x l p. search rules) in rw (← e)

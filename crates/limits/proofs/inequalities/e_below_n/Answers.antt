@@ -1,9 +1,0 @@
--- `limits::inequalities::e_below_n` meets its contract: it is the definition.
-use Rattle.std.proofs.Common.{rules}
-use Rattle.paper.specs.Setup.{e_below_n}
-use Rattle.limits.specs.Setup.{setup_of}
-use Rattle.limits.proofs.inequalities.e_below_n.Goals as goal
-
-pub returns : goal.returns
-unfolding e_below_n setup_of
-returns c = search rules

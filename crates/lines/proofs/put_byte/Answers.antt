@@ -1,7 +1,0 @@
--- `lines::put_byte` meets its contract: a byte is stored, and the place after it answered.
-use borrow.Author.Rules.{rules}
-use Rattle.lines.proofs.Putting.{put_one}
-use Rattle.lines.proofs.put_byte.Goals as goal
-
-pub returns : goal.returns
-returns c = put_one _ _ _ (search rules)

@@ -1,9 +1,0 @@
--- `put::records::flag_at` meets its contract: a list read past its end gives the default.
-use native.Mathlib.Omega.{arith}
-use borrow.Author.Rules.{rules}
-use Rattle.run.specs.Run.{stations}
-use Rattle.run.proofs.Filled.{past_end}
-use Rattle.put.proofs.records.flag_at.Goals as goal
-
-pub returns-else-i-lt-STATIONS : goal.returns-else-i-lt-STATIONS
-returns-else-i-lt-STATIONS c = past_end stations c.args.flags _ _ (search rules) (omega arith)

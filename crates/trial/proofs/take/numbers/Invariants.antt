@@ -1,6 +1,0 @@
--- `trial::take::numbers` ends: the places left fall.
-use Rattle.std.proofs.Common.{◌-◌}
-use Rattle.trial.proofs.take.numbers.Given as goal
-
-abbrev pub decreases-loop-i : goal.decreases-loop-i
-decreases-loop-i l = 32 - l.i
