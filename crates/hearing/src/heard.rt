@@ -59,7 +59,8 @@ fn has_value(c: Cell) -> bool
     matches!(c, Cell::Value(_))
 }
 
-// What each station ought to send: its vote in a vote round, else its estimate.
+// What each station ought to send: its vote in a vote round, else its estimate. A flag and a run, as the definition has
+// them.
 #[tactic(auto, unfolding(crate::specs::Surveying::prescribed))]
 pub fn prescribed(voting: bool, run: Run) -> Sent
     ensures { result ≡ prescribed voting run }
@@ -81,7 +82,7 @@ pub fn sets_of(cells: [Cell; Run::STATIONS], sent: Sent, n: u8) -> Sets
 {
     let Sent { given, values } = sent;
     let mut sets = Sets { ho: 0, sho: 0 };
-    // both in one pass: by `mask` twice a round takes a twentieth longer
+    // both in one pass: by `mask` twice a round takes 1.05 to 1.06 of its time, and more than 1.05 is too much
     for q in (0..block::places(n)).rev() {
         let c = cells[q];
         sets.ho = grown(sets.ho, arrived(c));

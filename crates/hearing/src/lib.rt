@@ -30,7 +30,7 @@ pub struct Spoken {
     pub senders: u32,
 }
 
-// HO and SHO of each receiver; all empty where the round is refused.
+// HO and SHO of each receiver, two arrays of masks; all empty where the round is refused (rule 12.6, and so no Result).
 #[derive(Clone, Copy)]
 pub struct Survey {
     pub reply: Reply,

@@ -29,7 +29,7 @@ pub struct Counted {
 }
 
 // What taking a round answers: the next run, for each station the value that fired, and the round's HO and SHO. Where
-// it is refused: the run handed in, no firing and empty sets.
+// it is refused: the run handed in, no firing and empty sets (rule 12.8, and so no Result).
 #[derive(Clone, Copy)]
 pub struct Stepped {
     pub reply: Reply,

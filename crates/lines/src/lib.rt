@@ -241,7 +241,8 @@ fn has_room(at: usize, room: usize) -> bool
     LINE <= room && at <= room - LINE
 }
 
-// Puts a line where one fits, and else nothing.
+// Puts a line where one fits, and else nothing. The place stays beside the buffer here and below: `PutIf` speaks of both,
+// and the caller goes on with the place.
 fn put_line<F: FnOnce(&mut Pen)>(out: &mut [u8], at: usize, line: F) -> usize
     requires calls { (p : _) → RoomFor p.now longest → F.pre line p }
     requires short { IsShort (λ p q. FnOnceReturnsAtMut F.FnOnce line p tt q) }

@@ -77,7 +77,8 @@ fn vote_round(s: Setup, default: u32, t: Tally) -> Deeds
     }
 }
 
-// The round's deeds, by its kind. `voting`: this is a vote round.
+// The round's deeds, by its kind. `voting`: this is a vote round. A choice between the paper's three rules by name is
+// plainer than a rule handed in.
 #[tactic(auto, unfolding(crate::specs::Told::deeds_told))]
 fn deeds_of(s: Setup, default: u32, voting: bool, x: Station, ho: u32, t: Tally) -> Deeds
     ensures { result ≡ deeds_told s default voting x ho t }
@@ -111,7 +112,8 @@ fn kept(number: u32, x: Station, d: Deeds) -> Station
     next
 }
 
-// What round `number` makes of one station that heard these, with this count of its row, and what fires at it.
+// What round `number` makes of one station that heard these, with this count of its row, and what fires at it. The
+// parameters are those of `told`, which the promise cites.
 #[tactic(auto, unfolding(crate::specs::Told::told))]
 pub fn outcome_of(
     s: Setup,

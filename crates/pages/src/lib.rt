@@ -18,7 +18,7 @@ pub struct Listed {
 }
 
 // Puts the first page: the setup's line, or that of a refused opening, which is the only one. Where no line fits behind
-// `at` nothing is put; so it is with the other pages.
+// `at` nothing is put; so it is with the other pages. Buffer and place are two, as `Puts` has them.
 pub fn put_first(out: &mut [u8], at: usize, opening: &[u8]) -> Listed
     ensures { Puts (first_page opening.now) out.old at result out.new }
 {

@@ -17,7 +17,7 @@ use run::{Refusal, Reply, Run};
 const PART: usize = 16;
 
 // What playing a part answers (rules 13.5 to 13.7): the run, the reply with its place in the refused round, and how
-// many rounds were accepted.
+// many rounds were accepted. No Result: all three stand beside a refusal too.
 #[derive(Clone, Copy)]
 pub struct Played {
     pub run: Run,
@@ -66,7 +66,8 @@ fn take_first(run: Run, tape: &[u8]) -> Result<(Run, &[u8]), Played>
     }
 }
 
-// Takes a value round of U, and hands the rest on to the vote round that follows.
+// Takes a value round of U, and hands the rest on to the vote round that follows. Rule 13.10 has the two hand on to each
+// other, so they stay two functions; what they share is `take_first`.
 #[cycle(rounds_of_u)]
 fn value_round(run: Run, tape: &[u8]) -> Played
     requires { Awaits value run }
@@ -101,7 +102,8 @@ fn round_of_a(run: Run, tape: &[u8]) -> Played
     }
 }
 
-// Plays a few rounds, by the kind of the round that the run waits for.
+// Plays a few rounds, by the kind of the round that the run waits for: three tests of the run, no table of functions,
+// since each function asks for its own kind (`Awaits`).
 #[tactic(auto, using(run::proofs::Asked::fails, run::proofs::Asked::passes, crate::proofs::Awaited::under_a, crate::proofs::Awaited::votes_first, crate::proofs::Awaited::values_first))]
 fn play_part(run: Run, tape: &[u8]) -> Played
     requires { Keeps run }

@@ -36,7 +36,7 @@ impl Matrix {
     }
 }
 
-// What reading a round answers: the matrix, all lost where it is refused.
+// What reading a round answers: the matrix, all lost where it is refused (rule 12.5, and so no Result).
 #[derive(Clone, Copy)]
 pub struct Reading {
     pub reply: Reply,

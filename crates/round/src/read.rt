@@ -69,7 +69,8 @@ pub fn row_part(round: &[u8], n: u8, p: u8) -> &[u8]
     &round[start..end]
 }
 
-// Reads the row of receiver p in a round of n stations: its cells, or what is wrong in the first record at fault.
+// Reads the row of receiver p in a round of n stations: its cells, or what is wrong in the first record at fault. Here,
+// above and below `voting` stands beside the bytes, as the definitions have it.
 pub fn read_row(row: &[u8], voting: bool, p: u8, n: u8) -> Result<[Cell; Run::STATIONS], Refusal>
     ensures { result ≡ read_row voting n p row.now }
 {

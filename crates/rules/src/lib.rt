@@ -54,7 +54,7 @@ pub fn decision_fits(s: Setup, clock: u32, decided: bool, round: u32) -> bool
     }
 }
 
-// No number is kept beside "?", and none beside undecided.
+// No number is kept beside "?", and none beside undecided. Flags with a number here, no Options: that is what is asked.
 #[tactic(auto, unfolding(run::specs::Run::kept_fits))]
 fn kept_fits(there: bool, number: u32) -> bool
     ensures { result ≡ kept_fits there number }

@@ -92,7 +92,8 @@ pub struct Station {
     pub round: u32,
 }
 
-// What opening or loading answers: the run, idle where it is refused.
+// What opening or loading answers: the run, idle where it is refused. No Result: rules 3.4 and 6.6 say what run stands
+// beside a refusal.
 #[derive(Clone, Copy)]
 pub struct Opened {
     pub reply: Reply,
