@@ -78,16 +78,16 @@ pub fn put_image(bytes: &mut [u8], run: Run)
     let at = |i: u8| run.station(i as usize);
     records::put_head(bytes, run.setup, run.default);
     records::put_record(bytes, CLOCK_AT, records::plain(kinds::CLOCK, 0, run.clock));
-    records::put_block(bytes, ESTIMATES, n, |i| {
+    records::put_each(bytes, ESTIMATES, n, |i| {
         records::plain(kinds::ESTIMATE, i, at(i).estimate)
     });
-    records::put_block(bytes, votes_from(n), n, |i| {
+    records::put_each(bytes, votes_from(n), n, |i| {
         records::record_of(VOTES_SHAPE, i, at(i).voted, at(i).vote)
     });
-    records::put_block(bytes, decisions_from(n), n, |i| {
+    records::put_each(bytes, decisions_from(n), n, |i| {
         records::record_of(DECISIONS_SHAPE, i, at(i).decided, at(i).decision)
     });
-    records::put_block(bytes, rounds_from(n), n, |i| {
+    records::put_each(bytes, rounds_from(n), n, |i| {
         records::plain(kinds::DECISION_ROUND, i, at(i).round)
     });
 }

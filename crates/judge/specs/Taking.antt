@@ -1,14 +1,13 @@
 -- A round taken as the code does it: room for it, its records, then 6 and 7 asked of the masks of HO and SHO, and each
 -- station's outcome from the count of its row. That this is the step is proved in proofs/Checks.antt and
 -- proofs/Advances.antt.
-use Rattle.std.specs.Prelude.{ℕ, ◌+◌, Bool, not, cond, Option, None, Result, Ok, Err, List, eqb, ltb, length, get_or, set}
+use Rattle.std.specs.Prelude.{ℕ, ◌+◌, Bool, not, cond, Option, None, List, eqb, ltb, length, get_or, set}
 use Rattle.std.specs.Int.Count.{ones}
 use Rattle.paper.specs.Setup as setup
 use Rattle.run.specs.Reply.{Reply}
 use Rattle.run.specs.Reply.{Accepted, Length, Altered, Unsafe, Full, Rules}
 use Rattle.run.specs.declared.Run.{Run}
 use Rattle.run.specs.declared.Station.{Station}
-use Rattle.run.specs.declared.reply.Refusal.{Refusal}
 use Rattle.limits.specs.declared.Setup.{Setup}
 use Rattle.run.specs.Reply.{◌then◌, or_refuse, refuse_at}
 use Rattle.run.specs.First.{first}
@@ -22,7 +21,6 @@ use Rattle.outcome.specs.declared.Outcome.{Outcome}
 use Rattle.judge.specs.declared.Stepped.{Stepped}
 use Rattle.outcome.specs.Told.{told}
 use Rattle.judge.specs.Rows.{no_value}
-use Rattle.judge.specs.Step.{unstepped}
 
 -- 10, 8, 1
 unfoldable pub check_room : Run → List ℕ → Reply
@@ -98,8 +96,3 @@ advanced run voting c =
       ho = c.ho;
       sho = c.sho;
     }
-
--- what taking a round answers: where it is refused, the run handed in
-abbrev pub taken : Run → Result Stepped Refusal → Stepped
-taken run (Ok s) = s
-taken run (Err r) = unstepped (Err r) run

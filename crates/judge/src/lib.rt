@@ -12,11 +12,11 @@ use run::{Reply, Run};
 
 // A run that has room for a round, and whether that is a vote round.
 #[derive(Clone, Copy)]
-pub(crate) struct Ready {
-    pub run: Run,
+pub(crate) struct Ready<'a> {
+    pub run: &'a Run,
     pub voting: bool,
-    pub ghost few: { run.setup.n ≤ stations },
-    pub ghost below: { run.clock < most_rounds },
+    pub ghost few: { run.now.setup.n ≤ stations },
+    pub ghost below: { run.now.clock < most_rounds },
 }
 
 // What the rows of a round tell: each receiver's HO, SHO and count.

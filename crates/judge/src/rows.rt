@@ -14,14 +14,14 @@ const NO_VALUE: Tally = Tally {
     least: None,
 };
 
-impl Ready {
+impl Ready<'_> {
     // Reads the rows of a round in order: the first record at fault, or the sets and the count of each row.
     pub(crate) fn count_rows(&self, round: &[u8]) -> Result<Counted, Refusal>
-        ensures { result ≡ rows_counted self.now.voting self.now.run round.now }
+        ensures { result ≡ rows_counted self.now.voting self.now.run.now round.now }
     {
         let setup = self.run.setup;
         let n = setup.n;
-        let sent = heard::prescribed(self.voting, self.run);
+        let sent = heard::prescribed(self.voting, *self.run);
         let mut counted = Counted {
             ho: [0; Run::STATIONS],
             sho: [0; Run::STATIONS],

@@ -1,8 +1,8 @@
 // One round taken: its checks in order, and what becomes of each station (rules 9.11 and 12.8).
-ghost use Rattle.std.specs.Prelude.{◌≡◌, ◌<◌};
+ghost use Rattle.std.specs.Prelude.{◌≡◌, ◌<◌, IfOk, IfErr, Err};
 ghost use Rattle.run.specs.Run.{stations};
 ghost use Rattle.judge.specs.Step.{unstepped, step_of};
-ghost use Rattle.judge.specs.Taking.{check_room, sets_asked, begun, placed, advanced, taken};
+ghost use Rattle.judge.specs.Taking.{check_room, sets_asked, begun, placed, advanced};
 
 use super::{Counted, Ready, Stepped};
 use hearing::{Sets, heard};
@@ -65,11 +65,11 @@ fn place(next: &mut Run, p: usize, s: Station)
     next.rounds[p] = s.round;
 }
 
-impl Ready {
+impl Ready<'_> {
     // 6 at the lowest receiver for which too many cells were altered; then under U 7 at the lowest that heard too few
     // safely.
     fn ask_sets(&self, ho: [u32; Run::STATIONS], sho: [u32; Run::STATIONS]) -> Reply
-        ensures { result ≡ sets_asked self.now.run.setup ho sho }
+        ensures { result ≡ sets_asked self.now.run.now.setup ho sho }
     {
         let setup = self.run.setup;
         let n = setup.n as usize;
@@ -95,11 +95,11 @@ impl Ready {
     // The run after a round that passed every check: each station's outcome, from what the run holds of it and what its
     // row tells.
     fn advance(&self, counted: Counted) -> Stepped
-        ensures { result ≡ advanced self.now.run self.now.voting counted }
+        ensures { result ≡ advanced self.now.run.now self.now.voting counted }
     {
         let run = self.run;
         let number = run.clock + 1;
-        let mut next = begun(run, number);
+        let mut next = begun(*run, number);
         let mut fired = [None; Run::STATIONS];
         for p in 0..run.setup.n as usize {
             let before = run.station(p);
@@ -127,24 +127,26 @@ impl Ready {
     }
 }
 
-// A round that is accepted: room for it, its records, then 6 and 7 asked of its sets, and the next run.
-fn take(run: Run, round: &[u8]) -> Result<Stepped, Refusal>
-    ensures { taken run result ≡ step_of run round.now }
+// A round that is accepted: room for it, its records, then 6 and 7 asked of its sets. What is then left is to move the
+// stations, which `step` does where its answer stands: a `Stepped` that goes through a `Result` is copied.
+fn take<'a>(run: &'a Run, round: &[u8]) -> Result<(Ready<'a>, Counted), Refusal>
+    ensures ok { IfOk result (λ x. advanced x.0.run.now x.0.voting x.1 ≡ step_of run.now round.now) }
+    ensures err { IfErr result (λ r. unstepped (Err r) run.now ≡ step_of run.now round.now) }
 {
-    check_room(run, round)?;
+    check_room(*run, round)?;
     let voting = rules::may_vote(run.setup, run.clock);
     let ready = Ready { run, voting };
     let counted = ready.count_rows(round)?;
     ready.ask_sets(counted.ho, counted.sho)?;
-    Ok(ready.advance(counted))
+    Ok((ready, counted))
 }
 
 // Takes a round: the next run and what fired, or the run handed in with the first refusal.
 pub fn step(run: Run, round: &[u8]) -> Stepped
     ensures { result ≡ step_of run round.now }
 {
-    match take(run, round) {
-        Ok(stepped) => stepped,
+    match take(&run, round) {
+        Ok((ready, counted)) => ready.advance(counted),
         Err(refusal) => unstepped(Err(refusal), run),
     }
 }

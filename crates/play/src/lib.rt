@@ -6,8 +6,10 @@ ghost use Rattle.paper.specs.Rules.{update, value, vote};
 ghost use Rattle.run.specs.Keeps.{Keeps};
 ghost use Rattle.run.specs.Run.{most_rounds};
 ghost use Rattle.round.specs.Reading.{round_length};
+ghost use Rattle.judge.specs.Step.{step_of};
 ghost use Rattle.play.specs.Play.{ended, more, first_of, rounds_of, take_rounds, take_tape, play_of, Awaits};
 
+use judge::Stepped;
 use judge::step::step;
 use limits::is_u;
 use round::read;
@@ -47,6 +49,15 @@ fn after(before: u32, a: Played) -> Played
     }
 }
 
+// Takes one round. It stands apart: compiled into `take_first`, a step moves its run field by field, and the longest
+// tape takes twice the time.
+#[inline(never)]
+fn take_one(run: Run, round: &[u8]) -> Stepped
+    ensures { result ≡ step_of run round.now }
+{
+    step(run, round)
+}
+
 // Takes the first round of the tape, or the rest if that is shorter: the next run with what is left of the tape; or the
 // answer, where nothing is left or the round is refused.
 fn take_first(run: Run, tape: &[u8]) -> Result<(Run, &[u8]), Played>
@@ -59,7 +70,7 @@ fn take_first(run: Run, tape: &[u8]) -> Result<(Run, &[u8]), Played>
     }
     let size = read::round_length(run.setup.n).min(tape.len());
     let (round, rest) = tape.split_at(size);
-    let stepped = step(run, round);
+    let stepped = take_one(run, round);
     match stepped.reply {
         Ok(()) => Ok((stepped.run, rest)),
         Err(refusal) => Err(ended(run, Err(refusal))),

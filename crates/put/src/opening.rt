@@ -46,7 +46,7 @@ pub fn write_opening(
 {
     check_write(setup, default, starts, out.len())?;
     records::put_head(out, setup, default);
-    records::put_block(out, opening::STARTS, setup.n, |i| {
+    records::put_each(out, opening::STARTS, setup.n, |i| {
         records::plain(kinds::START, i, starts[i as usize])
     });
     Ok(())

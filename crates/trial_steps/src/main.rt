@@ -68,11 +68,11 @@ fn one_step(rt: &impl Print, frames: &mut Frames<impl Read + Drop>) -> io::Resul
         before: &before,
         run: &stepped.run,
     };
-    print!(rt;
+    let _ = print!(rt;
         "{} {after} fired{}",
         Answer(stepped.reply),
         Fired(&stepped)
-    )?;
+    );
     let ho = Sets {
         n,
         masks: &stepped.ho,
@@ -95,9 +95,8 @@ fn one_play(rt: &impl Print, frames: &mut Frames<impl Read + Drop>) -> io::Resul
     print!(rt; "{} rounds {rounds} {after}", Answer(played.reply))
 }
 
-// What can't be written is lost: the program ends all the same.
 fn main(rt: HostRuntime) {
-    let _ = trial::run_trials(&rt, rt.stdin(), |operation, frames| match operation {
+    trial::run_trials(&rt, rt.stdin(), |operation, frames| match operation {
         Operation::Step => one_step(&rt, frames),
         Operation::Play => one_play(&rt, frames),
     });

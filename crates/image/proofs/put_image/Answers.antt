@@ -10,10 +10,10 @@ unfolding put_image put_blocks record_of
 returns c =
     let run = c.args.run in
     rw (
-      c.put_block-4.ensures (station_record rounds_block run) (λ i r l p. search rules),
-      c.put_block-3.ensures (station_record decisions_block run) (λ i r l p. search rules),
-      c.put_block-2.ensures (station_record votes_block run) (λ i r l p. search rules),
-      c.put_block.ensures (station_record estimates_block run) (λ i r l p. search rules),
+      c.put_each-4.ensures (station_record rounds_block run) (λ i r l p. search rules),
+      c.put_each-3.ensures (station_record decisions_block run) (λ i r l p. search rules),
+      c.put_each-2.ensures (station_record votes_block run) (λ i r l p. search rules),
+      c.put_each.ensures (station_record estimates_block run) (λ i r l p. search rules),
       c.put_record.ensures,
       c.put_head.ensures,
       c.plain.ensures,

@@ -15,7 +15,7 @@ loop-p-preserved c =
 pub returns : goal.returns
 returns c =
     let loop = c.loop-p in
-    let done : loop.p ≡ c.args.self.now.run.setup.n = omega arith in
+    let done : loop.p ≡ c.args.self.now.run.now.setup.n = omega arith in
     advanced_done _ _ _ loop.invariant.0 loop.invariant.1 done
 
 pub loop-p-init : goal.loop-p-init

@@ -5,4 +5,4 @@ use Rattle.judge.proofs.Ready.advance.Given as goal
 
 abbrev pub invariant-loop-p : goal.invariant-loop-p
 invariant-loop-p l =
-    (l.next ≡ next_to l.self.run l.self.voting l.counted l.p) × (l.fired ≡ fired_to l.self.run l.self.voting l.counted l.p)
+    (l.next ≡ next_to l.self.run.now l.self.voting l.counted l.p) × (l.fired ≡ fired_to l.self.run.now l.self.voting l.counted l.p)

@@ -17,15 +17,15 @@ abbrev unsafe : Setup → List ℕ → ℕ → Bool
 unsafe s sho p = not (enough_at s sho p)
 
 -- none has too many altered
-none_misheard : (c : In_default) → first c.args.self.now.run.setup.n (misheard c.args.self.now.run.setup c.args.ho c.args.sho) ≡ None
-none_misheard c = sym (c.first-misheard.ensures.first (misheard c.args.self.now.run.setup c.args.ho c.args.sho)
+none_misheard : (c : In_default) → first c.args.self.now.run.now.setup.n (misheard c.args.self.now.run.now.setup c.args.ho c.args.sho) ≡ None
+none_misheard c = sym (c.first-misheard.ensures.first (misheard c.args.self.now.run.now.setup c.args.ho c.args.sho)
     (λ i x l p. search rules)) ∙ c.in_default.is
 
 pub returns-in-Some : goal.returns-in-Some
 unfolding sets_asked altered_asked
 returns-in-Some c =
-    let at = misheard c.args.self.now.run.setup c.args.ho c.args.sho in
-    let e : Some c.in-Some.p ≡ first c.args.self.now.run.setup.n at = c.in-Some.ensures.first at (λ i x l p. search rules) in
+    let at = misheard c.args.self.now.run.now.setup c.args.ho c.args.sho in
+    let e : Some c.in-Some.p ≡ first c.args.self.now.run.now.setup.n at = c.in-Some.ensures.first at (λ i x l p. search rules) in
     rw (← e)
 
 pub returns-then-not-is_u : goal.returns-then-not-is_u
@@ -36,8 +36,8 @@ returns-then-not-is_u c =
 pub returns-in-Some-first : goal.returns-in-Some-first
 unfolding sets_asked altered_asked safe_asked
 returns-in-Some-first c =
-    let at = unsafe c.args.self.now.run.setup c.args.sho in
-    let e : Some c.in-Some-first.p ≡ first c.args.self.now.run.setup.n at = c.in-Some-first.ensures.first at (λ i x l p. search rules) in
+    let at = unsafe c.args.self.now.run.now.setup c.args.sho in
+    let e : Some c.in-Some-first.p ≡ first c.args.self.now.run.now.setup.n at = c.in-Some-first.ensures.first at (λ i x l p. search rules) in
     rw (
       none_misheard (goal.at.returns-in-Some-first c).In_default,
       ← e,
@@ -48,6 +48,6 @@ returns-in-Some-first c =
 pub returns-in-None : goal.returns-in-None
 unfolding sets_asked altered_asked safe_asked
 returns-in-None c =
-    let at = unsafe c.args.self.now.run.setup c.args.sho in
-    let e : None ≡ first c.args.self.now.run.setup.n at = c.in-None.ensures.first at (λ i x l p. search rules) in
+    let at = unsafe c.args.self.now.run.now.setup c.args.sho in
+    let e : None ≡ first c.args.self.now.run.now.setup.n at = c.in-None.ensures.first at (λ i x l p. search rules) in
     rw (none_misheard (goal.at.returns-in-None c).In_default, ← e, ← c.is_u.ensures, c.if-not-is_u.false)

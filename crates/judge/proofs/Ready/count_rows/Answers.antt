@@ -15,7 +15,7 @@ returns-in_err-cells c =
     let no = row_stops _ _ _ _ _ c.in_err-cells.ensures c.row_part.ensures in
     handed c.from_residual.ensures
     ∙ counted_refused _ _ _
-    (turn_returns _ c.args.self.now.run.setup.n _ c.loop-receiver.invariant.0 no (stops no) (omega arith))
+    (turn_returns _ c.args.self.now.run.now.setup.n _ c.loop-receiver.invariant.0 no (stops no) (omega arith))
 
 pub loop-receiver-preserved : goal.loop-receiver-preserved
 loop-receiver-preserved c =
@@ -29,7 +29,7 @@ pub returns : goal.returns
 unfolding check_cells
 returns c =
     let loop = c.loop-receiver in
-    let done : loop.receiver ≡ c.args.self.now.run.setup.n = omega arith in
+    let done : loop.receiver ≡ c.args.self.now.run.now.setup.n = omega arith in
     counted_done _ _ _ loop.invariant.1 c.prescribed-sent.ensures done (rw done at loop.invariant.0)
 
 pub loop-receiver-init : goal.loop-receiver-init

@@ -19,12 +19,12 @@ use Rattle.judge.proofs.Advances.{advanced_is}
 use Rattle.judge.proofs.step.take.Goals as goal
 use Rattle.judge.proofs.step.take.Goals.{In_ok-check_room, In_ok-counted}
 
-pub returns-in_err-check_room : goal.returns-in_err-check_room
-returns-in_err-check_room c =
+pub returns-in_err-check_room-clause-err : goal.returns-in_err-check_room-clause-err
+returns-in_err-check_room-clause-err c =
     let no = c.in_err-check_room.ensures in
     rw (handed c.from_residual.ensures) (room_refused _ _ no (stops no))
 
-there : (c : In_ok-check_room) → check_room c.args.run c.args.round.now ≡ Accepted
+there : (c : In_ok-check_room) → check_room c.args.run.now c.args.round.now ≡ Accepted
 there c = sym c.in_ok-check_room.ensures
 
 pub invariant_of-ready : goal.invariant_of-ready
@@ -32,11 +32,11 @@ invariant_of-ready c =
     let (kept, room) = room_keeps _ _ (there (goal.at.invariant_of-ready c).In_ok-check_room) in
     record { few = kept.setup.n_to; below = room }
 
-pub returns-in_err-counted : goal.returns-in_err-counted
-returns-in_err-counted c =
+pub returns-in_err-counted-clause-err : goal.returns-in_err-counted-clause-err
+returns-in_err-counted-clause-err c =
     let no = counted_stops _ _ _ (rw c.may_vote-voting.ensures at c.in_err-counted.ensures) in
     rw (handed c.from_residual-in_err-counted.ensures)
-    (cells_refused _ _ (there (goal.at.returns-in_err-counted c).In_ok-check_room) no (stops no))
+    (cells_refused _ _ (there (goal.at.returns-in_err-counted-clause-err c).In_ok-check_room) no (stops no))
 
 -- what the rows tell of a run that has room for the round
 record Rows (run : Run) (bs : List ℕ) (counted : Counted) : Type 0 where
@@ -54,22 +54,21 @@ module _ {run : Run} {bs : List ℕ} {counted : Counted} (rows : Rows run bs cou
   safely : counted.sho ≡ sho_sets run run.setup.n bs
   safely = ap (λ (r : Counted). r.sho) rows.told ∙ counted_sho run bs keeps.setup.n_to
 
-rows_of : (c : In_ok-counted) → Rows c.args.run c.args.round.now c.in_ok-counted.counted
+rows_of : (c : In_ok-counted) → Rows c.args.run.now c.args.round.now c.in_ok-counted.counted
 rows_of c =
     let given = counted_given _ _ _ (rw c.may_vote-voting.ensures at c.in_ok-counted.ensures) in
     record { there = sym c.in_ok-check_room.ensures; good = given.0; told = given.1 }
 
-pub returns-in_err-ask_sets : goal.returns-in_err-ask_sets
-returns-in_err-ask_sets c =
-    let rows = rows_of (goal.at.returns-in_err-ask_sets c).In_ok-counted in
+pub returns-in_err-ask_sets-clause-err : goal.returns-in_err-ask_sets-clause-err
+returns-in_err-ask_sets-clause-err c =
+    let rows = rows_of (goal.at.returns-in_err-ask_sets-clause-err c).In_ok-counted in
     let no = c.in_err-ask_sets.ensures in
     rw (handed c.from_residual-in_err-ask_sets.ensures)
     (sets_refused _ _ rows.there rows.good _ _ (heard rows) (safely rows) no (stops no))
 
-pub returns : goal.returns
-returns c =
-    let rows = rows_of (goal.at.returns c).In_ok-counted in
-    c.advance.ensures
-    ∙ ap₂ (λ (voting : Bool) (r : Counted). advanced c.args.run voting r) c.may_vote-voting.ensures rows.told
+pub returns-clause-ok : goal.returns-clause-ok
+returns-clause-ok c =
+    let rows = rows_of (goal.at.returns-clause-ok c).In_ok-counted in
+    ap₂ (λ (voting : Bool) (r : Counted). advanced c.args.run.now voting r) c.may_vote-voting.ensures rows.told
     ∙ advanced_is _ _ (keeps rows)
     ∙ sets_accepted _ _ rows.there rows.good _ _ (heard rows) (safely rows) (sym c.in_ok-ask_sets.ensures)

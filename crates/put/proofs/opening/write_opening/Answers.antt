@@ -12,8 +12,8 @@ use Rattle.put.proofs.opening.write_opening.Goals as goal
 pub returns-in_err-check_write-clause-bytes : goal.returns-in_err-check_write-clause-bytes
 returns-in_err-check_write-clause-bytes c = wrote_nothing _ _ _ _ (stops c.in_err-check_write.ensures)
 
-pub put_block-requires : goal.put_block-requires
-put_block-requires c =
+pub put_each-requires : goal.put_each-requires
+put_each-requires c =
     let set_up = ((writing_accepted _ _ _ _).0 (sym c.in_ok-check_write.ensures)).set_up in
     let few : c.args.setup.n ≤ stations = ((in_range_iff c.args.setup).0 ((check_setup_accepted c.args.setup).0 set_up).0).3 in
     λ i l. search rules
@@ -21,5 +21,5 @@ put_block-requires c =
 pub returns-clause-bytes : goal.returns-clause-bytes
 unfolding record_of
 returns-clause-bytes c =
-    rw (c.put_block.ensures (block_record starts_shape [] c.args.starts) (λ i r l p. search rules), c.put_head.ensures)
+    rw (c.put_each.ensures (block_record starts_shape [] c.args.starts) (λ i r l p. search rules), c.put_head.ensures)
     (wrote_opening _ _ _ [] _ (sym c.in_ok-check_write.ensures))
