@@ -5,6 +5,8 @@
 
 pub mod take; // what a frame holds, read
 pub mod print; // what a line says, printed
+#[cfg(test)]
+mod tests;
 
 use std::io::Read;
 use std::{fmt, io};
@@ -23,9 +25,37 @@ impl fmt::Display for NoSuchOperation {
 }
 
 // Runs the trials: for each frame of the input one call, and a line that says what it answered. The call reads what
-// the operation takes, and prints what it answers. What can't be written is lost, and the next frame is read all the
-// same.
-pub fn run_trials<P, R, O, F>(rt: &P, input: R, mut call: F)
+// the operation takes, and prints what it answers. The first error, of a write or of the call, ends them and is the
+// answer.
+pub fn run_trials<P, R, O, F>(rt: &P, input: R, mut call: F) -> io::Result<()>
+where
+    P: Print,
+    R: Read + Drop,
+    O: TryFrom<u8, Error = NoSuchOperation>,
+    F: FnMut(O, &mut Frames<R>) -> io::Result<()>,
+    requires { F.IsAlwaysCallable call }
+{
+    let mut frames = Frames::new(input);
+    for _ in 0..FRAMES {
+        let mut room = [0; take::LABEL]; // zeros behind the input's end, and not the payloads' room
+        let Some(label) = frames.label(&mut room) else {
+            break;
+        };
+        rt.write_all(label)?;
+        print!(rt; ": ")?;
+        match O::try_from(frames.byte()) {
+            Ok(operation) => call(operation, &mut frames)?,
+            Err(none) => print!(rt; "{none}")?,
+        }
+        println!(rt)?;
+    }
+    Ok(())
+}
+
+// Runs every trial, and answers nothing: an error, of a write or of the call, is dropped where it comes, and the next
+// frame is read all the same. A loop of its own, since under one with `run_trials` a closure would have to say at four
+// places what becomes of an error.
+pub fn run_every_trial<P, R, O, F>(rt: &P, input: R, mut call: F)
 where
     P: Print,
     R: Read + Drop,

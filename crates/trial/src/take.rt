@@ -19,6 +19,7 @@ pub struct Frames<R> {
 }
 
 // Reads until the bytes are full; where the input ends first, or can't be read on, those behind its end stay as they are.
+// So it is with std's readers: of a buffer that was not filled `Read` itself promises nothing.
 fn fill<R: Read>(input: &mut R, bytes: &mut [u8]) {
     let _ = input.read_exact(bytes);
 }

@@ -98,7 +98,7 @@ fn survey(rt: &impl Print, frames: &mut Frames<impl Read + Drop>) -> io::Result<
 }
 
 fn main(rt: HostRuntime) {
-    trial::run_trials(&rt, rt.stdin(), |operation, frames| match operation {
+    trial::run_every_trial(&rt, rt.stdin(), |operation, frames| match operation {
         Operation::ReadRound => read_round(&rt, frames),
         Operation::WriteRound => write_round(&rt, frames),
         Operation::Survey => survey(&rt, frames),

@@ -55,7 +55,7 @@ fn sound(rt: &impl Print, frames: &mut Frames<impl Read + Drop>) -> io::Result<(
 }
 
 fn main(rt: HostRuntime) {
-    trial::run_trials(&rt, rt.stdin(), |operation, frames| match operation {
+    trial::run_every_trial(&rt, rt.stdin(), |operation, frames| match operation {
         Operation::Open => print!(rt; "{}", OpenedRun(Run::open(frames.payload()))),
         Operation::WriteOpening => write_opening(&rt, frames),
         Operation::Load => print!(rt; "{}", OpenedRun(image::load(frames.payload()))),

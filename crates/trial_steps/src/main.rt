@@ -96,7 +96,7 @@ fn one_play(rt: &impl Print, frames: &mut Frames<impl Read + Drop>) -> io::Resul
 }
 
 fn main(rt: HostRuntime) {
-    trial::run_trials(&rt, rt.stdin(), |operation, frames| match operation {
+    trial::run_every_trial(&rt, rt.stdin(), |operation, frames| match operation {
         Operation::Step => one_step(&rt, frames),
         Operation::Play => one_play(&rt, frames),
     });
